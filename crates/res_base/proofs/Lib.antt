@@ -1,0 +1,3 @@
+pub mod CoordReaderRight
+pub mod CoordSteps
+pub mod Slashes

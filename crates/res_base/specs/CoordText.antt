@@ -1,0 +1,19 @@
+-- What the text of a coordinate is.
+use Rattle.std.specs.Prelude.{◌≡◌, ℕ, Bool, true, not, ◌&&◌, ◌||◌, List, ◌∷◌, ◌++◌, length, nat_le, ◌==◌}
+use Rattle.res_base.specs.Plain.{is_plain_byte, every, is_plain_org, is_plain_name}
+use Rattle.res_base.specs.declared.coord.Coord.{Coord}
+
+-- plain bytes and the signs of intervals: [ ] ( ) and ,
+abbrev pub is_constraint_byte : ℕ → Bool
+is_constraint_byte byte = is_plain_byte byte || (byte == 91 || (byte == 93 || (byte == 40 || (byte == 41 || byte == 44))))
+
+-- one or more of these
+abbrev pub is_constraint_text : List ℕ → Bool
+is_constraint_text text = every is_constraint_byte text && not (nat_le (length text) 0)
+
+-- ORG:NAME:CONSTRAINT, with the constraint as the version
+pub record IsCoordText (text : List ℕ) (coord : Coord) : Type 0 where
+  pub whole : text ≡ coord.«module».org ++ 58 ∷ (coord.«module».name ++ 58 ∷ coord.version)
+  pub org : is_plain_org coord.«module».org ≡ true
+  pub name : is_plain_name coord.«module».name ≡ true
+  pub constraint : is_constraint_text coord.version ≡ true

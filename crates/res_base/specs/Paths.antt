@@ -1,0 +1,23 @@
+-- Where a repository keeps its files: the Maven 2 repository layout.
+use Rattle.std.specs.Prelude.{ℕ, List, ◌∷◌, ◌++◌, codes, map, ◌==◌, if◌then◌else◌}
+use Rattle.res_base.specs.declared.coord.Coord.{Coord}
+use Rattle.res_base.specs.declared.coord.Module.{Module}
+
+-- a slash for a dot
+abbrev pub slashed_byte : ℕ → ℕ
+slashed_byte byte = if byte == 46 then 47 else byte
+
+-- the folder of an org: each dot becomes a slash
+abbrev pub slashed : List ℕ → List ℕ
+slashed org = map slashed_byte org
+
+-- org/name
+abbrev pub module_folder : Module → List ℕ
+module_folder m = slashed m.org ++ 47 ∷ m.name
+
+-- org/name/version/name-version
+abbrev pub file_stem : Coord → List ℕ
+file_stem c = module_folder c.«module» ++ 47 ∷ (c.version ++ 47 ∷ (c.«module».name ++ 45 ∷ c.version))
+
+abbrev pub pom_path_of : Coord → List ℕ
+pom_path_of c = file_stem c ++ codes ".pom"
