@@ -1,0 +1,20 @@
+//! What the resolver asks of the outside: links that give files by their URLs, sinks that take
+//! bytes, and clocks. Each is a trait, with one object in memory that says what it holds.
+#![tactic(auto)]
+
+mod clocks;
+mod link_errors;
+mod links;
+mod memory_calls;
+mod memory_clock;
+mod memory_link;
+mod memory_sink;
+mod sinks;
+
+pub use clocks::Clock;
+pub use link_errors::LinkErr;
+pub use links::{Got, Link, Next, OpenFile, Opened};
+pub use memory_clock::MemClock;
+pub use memory_link::MemLink;
+pub use memory_sink::MemSink;
+pub use sinks::{Sink, SinkErr};

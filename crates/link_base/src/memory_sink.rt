@@ -1,0 +1,50 @@
+//! A sink in memory.
+ghost use Rattle.std.specs.Prelude.{◌≡◌, [], Some};
+
+use crate::memory_calls::Calls;
+use crate::{Sink, SinkErr};
+use res_base::List;
+use std::alloc::Global;
+
+/// A sink that keeps what is put, and fails at the calls of `put` that it was told, counted from
+/// 0. Of a call that fails nothing goes out.
+#[derive(Drop)]
+pub struct MemSink {
+    bytes: Vec<u8>,
+    calls: Calls,
+}
+
+impl MemSink {
+    /// An empty sink that fails at the calls with these numbers.
+    pub fn new(alloc: Global, failing: List<u64>) -> MemSink
+        ensures written { ⟦<MemSink as Sink>⟧.written result ≡ Some [] }
+        ensures faults { ⟦<MemSink as Sink>⟧.faults result ≡ 0 }
+    {
+        MemSink {
+            bytes: Vec::new(alloc),
+            calls: Calls::new(failing),
+        }
+    }
+
+    /// What went out.
+    pub fn bytes(&self) -> &[u8]
+        ensures { ⟦<MemSink as Sink>⟧.written self.now ≡ Some result.now }
+    {
+        self.bytes.as_slice()
+    }
+}
+
+impl Sink for MemSink {
+    ghost written = { λ sink. Some sink.bytes.items };
+
+    ghost faults = { λ sink. sink.calls.faults };
+
+    fn put(&mut self, _alloc: Global, bytes: &[u8]) -> Result<(), SinkErr> {
+        if self.calls.next_fails() {
+            self.calls.add_fault();
+            return Err(SinkErr::Failed);
+        }
+        self.bytes.extend_from_slice(bytes)?;
+        Ok(())
+    }
+}
