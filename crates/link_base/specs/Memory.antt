@@ -1,7 +1,8 @@
--- What the objects in memory hold.
-use Rattle.std.specs.Prelude.{ℕ, ◌≡◌, ◌==◌, Bool, List}
+-- The calls of an object in memory.
+use Rattle.std.specs.Prelude.{ℕ, ◌≡◌, ◌==◌, Bool, List, Result, IsErr, IsErrOf, IsTrue, true}
 use Rattle.std.specs.List.{list_any}
 use Rattle.res_base.specs.World.{at}
+use Rattle.link_base.specs.Causes.{counted}
 use Rattle.link_base.specs.Links.{Rows}
 use Rattle.link_base.specs.declared.memory_calls.Calls.{Calls}
 
@@ -16,3 +17,11 @@ no_calls failing = record { failing = failing; made = 0; faults = 0 }
 -- the next call is one of those that are to fail
 abbrev pub is_to_fail : Calls → Bool
 is_to_fail calls = list_any (λ call. call == calls.made) calls.failing
+
+-- a call was made: it is counted, and it answered the fault only where it was to fail; then it gave no other answer, want of memory
+-- excepted
+pub record IsNextCall {T E : Type 0} (fault : E) (before now : Calls) (result : Result T E) : Type 0 where
+  pub failing : now.failing ≡ before.failing
+  pub made : now.made ≡ counted before.made
+  pub only_listed : IsErrOf result fault → IsTrue (is_to_fail before)
+  pub each_listed : IsTrue (is_to_fail before) → IsErr result

@@ -1,9 +1,10 @@
 //! A link in memory.
-ghost use Rattle.std.specs.Prelude.{◌≡◌, [], ◌∷◌, ◌++◌, Some, IfOk};
+ghost use Rattle.std.specs.Prelude.{◌≡◌, [], ◌∷◌, ◌++◌, None, Some, IfOk, IsSome};
 ghost use Rattle.std.specs.Option.{ForSome};
-ghost use Rattle.link_base.specs.Causes.{counted};
-ghost use Rattle.link_base.specs.Links.{url_of};
-ghost use Rattle.link_base.specs.Memory.{HoldsAs};
+ghost use Rattle.link_base.specs.Causes.{counted, HasCause};
+ghost use Rattle.link_base.specs.Links.{Rows, url_of, got_of, FitsLimit, opened_of, file_after_open, file_after_piece, failed_after, url_of_file, IsNext, IsWithinPiece, LinkKept};
+ghost use Rattle.link_base.specs.Memory.{HoldsAs, IsNextCall};
+ghost use Rattle.res_base.specs.World.{at};
 ghost use Rattle.link_base.specs.Reading.{IsInWorld};
 
 use crate::memory_calls::Calls;
@@ -73,6 +74,8 @@ impl MemLink {
 }
 
 impl Link for MemLink {
+    ghost use Rattle.link_base.specs.MemoryLinks.{AgreesWith, asked_of, calls_of, failed_of, faults_of, file_of, world_of};
+
     ghost agrees = { λ link w. HoldsAs link.world.rows w };
 
     ghost faults = { λ link. link.calls.faults };
@@ -89,7 +92,17 @@ impl Link for MemLink {
         address: &str,
         path: &str,
         limit: u64,
-    ) -> Result<Got, LinkErr> {
+    ) -> Result<Got, LinkErr>
+        ensures answer { (w : Rows) → AgreesWith self.old w → IfOk result (λ got. got ≡ got_of (at w (url_of address.now path.now)) limit) }
+        ensures within { IfOk result (FitsLimit limit) }
+        ensures cause { HasCause LinkErr.Failed (faults_of self.old) (faults_of self.new) result }
+        ensures asked { asked_of self.new ≡ counted (asked_of self.old) }
+        ensures closed { file_of self.new ≡ None }
+        ensures failed { failed_of self.new ≡ failed_after (failed_of self.old) (url_of address.now path.now) result }
+        ensures kept { LinkKept AgreesWith faults_of asked_of failed_of self.old self.new }
+        ensures world { world_of self.new ≡ world_of self.old }
+        ensures call { IsNextCall LinkErr.Failed (calls_of self.old) (calls_of self.new) result }
+    {
         self.asked = self.asked.saturating_add(1);
         self.reading = None;
         let fails = self.calls.next_fails();
@@ -115,7 +128,16 @@ impl Link for MemLink {
         address: &str,
         path: &str,
         limit: u64,
-    ) -> Result<Opened, LinkErr> {
+    ) -> Result<Opened, LinkErr>
+        ensures answer { (w : Rows) → AgreesWith self.old w → IfOk result (λ opened. opened ≡ opened_of (at w (url_of address.now path.now))) }
+        ensures cause { HasCause LinkErr.Failed (faults_of self.old) (faults_of self.new) result }
+        ensures asked { asked_of self.new ≡ counted (asked_of self.old) }
+        ensures opened { file_of self.new ≡ file_after_open (url_of address.now path.now) limit result }
+        ensures failed { failed_of self.new ≡ failed_after (failed_of self.old) (url_of address.now path.now) result }
+        ensures kept { LinkKept AgreesWith faults_of asked_of failed_of self.old self.new }
+        ensures world { world_of self.new ≡ world_of self.old }
+        ensures call { IsNextCall LinkErr.Failed (calls_of self.old) (calls_of self.new) result }
+    {
         self.asked = self.asked.saturating_add(1);
         self.reading = None;
         let fails = self.calls.next_fails();
@@ -136,7 +158,18 @@ impl Link for MemLink {
         }
     }
 
-    fn next_piece(&mut self, _alloc: Global, into: &mut Vec<u8>) -> Result<Next, LinkErr> {
+    fn next_piece(&mut self, _alloc: Global, into: &mut Vec<u8>) -> Result<Next, LinkErr>
+        requires { IsSome (file_of self.old) }
+        ensures answer { (w : Rows) → AgreesWith self.old w → ForSome (file_of self.old) (λ file. IsNext file (at w file.url) result into.new.items) }
+        ensures within { ForSome (file_of self.old) (λ file. IsWithinPiece file result into.new.items) }
+        ensures cause { HasCause LinkErr.Failed (faults_of self.old) (faults_of self.new) result }
+        ensures asked { asked_of self.new ≡ asked_of self.old }
+        ensures moved { file_of self.new ≡ file_after_piece (file_of self.old) result into.new.items }
+        ensures failed { failed_of self.new ≡ failed_after (failed_of self.old) (url_of_file (file_of self.old)) result }
+        ensures kept { LinkKept AgreesWith faults_of asked_of failed_of self.old self.new }
+        ensures world { world_of self.new ≡ world_of self.old }
+        ensures call { IsNextCall LinkErr.Failed (calls_of self.old) (calls_of self.new) result }
+    {
         into.clear();
         let Some(mut file) = self.reading.take() else {
             unreachable!()
