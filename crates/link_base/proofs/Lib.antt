@@ -1,2 +1,3 @@
 pub mod Kept
+pub mod PlainPaths
 pub mod Zipped
