@@ -1,0 +1,4 @@
+pub mod LonePom
+pub mod Machine
+pub mod PlainTree
+pub mod Views
