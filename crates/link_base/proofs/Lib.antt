@@ -1,3 +1,4 @@
+mod FirstPlaces
 pub mod Kept
 pub mod PlainPaths
 pub mod Zipped

@@ -1,7 +1,7 @@
 -- The paths of plain coordinates are paths of files.
-use Rattle.std.proofs.Common.{◌≡◌, ℕ, ◌+◌, ◌<◌, Bool, true, false, not, ◌&&◌, ◌||◌, ◌==◌, List, [], ◌∷◌, ◌++◌, length, refl, sym, ◌∙◌, ap, append_assoc, codes, append-nil, ◌⊎◌, inl, inr}
+use Rattle.std.proofs.Common.{◌≡◌, ℕ, Bool, true, false, not, ◌&&◌, ◌||◌, ◌==◌, List, [], ◌∷◌, ◌++◌, refl, sym, ◌∙◌, ap, append_assoc, codes, append-nil, ◌⊎◌, inl, inr}
 use Rattle.std.proofs.lemmas.Bool.{eqb-true, false_from_ne_true}
-use Rattle.std.specs.List.{list_all, slice_split}
+use Rattle.std.specs.List.{slice_split}
 use Rattle.res_base.specs.Plain.{is_word_byte, is_plain_byte, every, is_dot, goes_on_as_org, is_at_most_two_dots, is_plain_org, is_plain_name, is_plain_coord}
 use Rattle.res_base.specs.Paths.{slashed, slashed_byte, pom_path_of}
 use Rattle.res_base.specs.declared.coord.Coord.{Coord}
@@ -96,11 +96,11 @@ org_before word [] rest in_part w s g r = rw append-nil (segment_before word res
 org_before word (b ∷ text) rest in_part w s g r =
     let both = and_parts (is_word_byte b || (is_dot b && in_part)) (goes_on_as_org (is_word_byte b) text) g in
     elim (both_ways (is_word_byte b)) [
-      inl word_byte ↦ rw (slashed_word b word_byte, ← append_assoc word (b ∷ []) (slashed text)) (org_before (word ++ (b ∷ [])) text rest (is_word_byte b) (every-append is_word_byte word (b ∷ []) w (and_both _ _ word_byte refl)) (λ _. word_then word b w word_byte) both.1 r)
-    | inr other_byte ↦
-      let dot = and_parts (is_dot b) in_part (from_second (is_word_byte b) (is_dot b && in_part) other_byte both.0) in
-      let after : is_file_path (slashed text ++ (47 ∷ rest)) ≡ true = org_before [] text rest (is_word_byte b) refl (λ e. let bad : false ≡ true = sym other_byte ∙ e in cc) both.1 r in
-      rw (dot.0, append_assoc word (47 ∷ slashed text) (47 ∷ rest)) (segment_before word (slashed text ++ (47 ∷ rest)) (s dot.1) after)
+      | inl word_byte ↦ rw (slashed_word b word_byte, ← append_assoc word (b ∷ []) (slashed text)) (org_before (word ++ (b ∷ [])) text rest (is_word_byte b) (every-append is_word_byte word (b ∷ []) w (and_both _ _ word_byte refl)) (λ _. word_then word b w word_byte) both.1 r)
+      | inr other_byte ↦
+          let dot = and_parts (is_dot b) in_part (from_second (is_word_byte b) (is_dot b && in_part) other_byte both.0) in
+          let after : is_file_path (slashed text ++ (47 ∷ rest)) ≡ true = org_before [] text rest (is_word_byte b) refl (λ e. let bad : false ≡ true = sym other_byte ∙ e in cc) both.1 r in
+          rw (dot.0, append_assoc word (47 ∷ slashed text) (47 ∷ rest)) (segment_before word (slashed text ++ (47 ∷ rest)) (s dot.1) after)
     ]
 
 and_false : (b : Bool) → (b && false) ≡ false
@@ -139,6 +139,6 @@ pom_path_is_file_path c p =
     let behind : List ℕ = name ++ (47 ∷ (version ++ (47 ∷ stem))) in
     let file : is_file_path stem ≡ true = segment_alone stem (dashed name (version ++ codes ".pom") front.1 (every-append is_plain_byte version (codes ".pom") bytes.0 refl)) in
     let path : is_file_path behind ≡ true =
-      segment_before name (version ++ (47 ∷ stem)) (name_is_segment name front.1) (segment_before version stem (name_is_segment version both.1) file) in
+    segment_before name (version ++ (47 ∷ stem)) (name_is_segment name front.1) (segment_before version stem (name_is_segment version both.1) file) in
     let whole : is_file_path (slashed org ++ (47 ∷ behind)) ≡ true = org_before [] org behind false refl no_word front.0 path in
     rw (pom_path_parts c) whole

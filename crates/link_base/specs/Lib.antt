@@ -2,6 +2,9 @@ pub mod Causes
 pub mod FilePaths
 pub mod Links
 pub mod Memory
+pub mod MemoryClocks
 pub mod MemoryLinks
+pub mod MemorySinks
+pub mod Places
 pub mod Reading
 pub mod Sinks

@@ -1,5 +1,5 @@
 -- The calls of an object in memory.
-use Rattle.std.specs.Prelude.{ℕ, ◌≡◌, ◌==◌, Bool, List, Result, IsErr, IsErrOf, IsTrue, true}
+use Rattle.std.specs.Prelude.{ℕ, ◌≡◌, ◌==◌, Bool, List, Result, IsErr, IsErrOf, IsTrue}
 use Rattle.std.specs.List.{list_any}
 use Rattle.res_base.specs.World.{at}
 use Rattle.link_base.specs.Causes.{counted}

@@ -8,7 +8,7 @@ use Rattle.link_base.specs.declared.memory_link.MemLink.{MemLink}
 
 -- the rows of the world that it gives
 abbrev pub world_of : MemLink → Rows
-world_of link = link.world.rows
+world_of link = link.files.world.rows
 
 -- which of its calls are to fail, how many it had, and how many failed
 abbrev pub calls_of : MemLink → Calls

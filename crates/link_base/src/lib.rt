@@ -10,6 +10,7 @@ mod memory_clock;
 mod memory_link;
 mod memory_sink;
 mod sinks;
+mod world_files;
 
 pub use clocks::Clock;
 pub use link_errors::LinkErr;

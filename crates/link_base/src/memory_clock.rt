@@ -1,5 +1,6 @@
 //! A clock in memory.
-ghost use Rattle.std.specs.Prelude.{◌≡◌, ◌<◌, length, None};
+ghost use Rattle.std.specs.Prelude.{◌≡◌, ◌<◌, length, None, Some};
+ghost use Rattle.link_base.specs.Causes.{counted};
 
 use crate::Clock;
 use res_base::List;
@@ -15,9 +16,14 @@ pub struct MemClock {
 }
 
 impl MemClock {
+    ghost use Rattle.link_base.specs.MemoryClocks.{calls_of, moments_of};
+
+    /// A clock of these moments, of which there is one at least.
     pub fn new(_alloc: Global, moments: List<u64>) -> MemClock
         requires { 0 < length moments }
-        ensures { ⟦<MemClock as Clock>⟧.last result ≡ None }
+        ensures last { ⟦<MemClock as Clock>⟧.last result ≡ None }
+        ensures moments { moments_of result ≡ moments }
+        ensures calls { calls_of result ≡ 0 }
     {
         MemClock {
             moments,
@@ -28,9 +34,16 @@ impl MemClock {
 }
 
 impl Clock for MemClock {
+    ghost use Rattle.link_base.specs.MemoryClocks.{calls_of, last_of, moment_at, moments_of};
+
     ghost last = { λ clock. clock.last };
 
-    fn moment(&mut self) -> u64 {
+    fn moment(&mut self) -> u64
+        ensures value { result ≡ moment_at (moments_of self.old) (calls_of self.old) }
+        ensures last { last_of self.new ≡ Some result }
+        ensures moments { moments_of self.new ≡ moments_of self.old }
+        ensures calls { calls_of self.new ≡ counted (calls_of self.old) }
+    {
         let moments = self.moments.as_slice();
         let moment = if self.calls < moments.len() {
             moments[self.calls]

@@ -3,11 +3,12 @@ ghost use Rattle.std.specs.Prelude.{◌≡◌, [], ◌∷◌, ◌++◌, None, So
 ghost use Rattle.std.specs.Option.{ForSome};
 ghost use Rattle.link_base.specs.Causes.{counted, HasCause};
 ghost use Rattle.link_base.specs.Links.{Rows, url_of, got_of, FitsLimit, opened_of, file_after_open, file_after_piece, failed_after, url_of_file, IsNext, IsWithinPiece, LinkKept};
-ghost use Rattle.link_base.specs.Memory.{HoldsAs, IsNextCall};
+ghost use Rattle.link_base.specs.Memory.{HoldsAs, IsNextCall, no_calls};
 ghost use Rattle.res_base.specs.World.{at};
 ghost use Rattle.link_base.specs.Reading.{IsInWorld};
 
 use crate::memory_calls::Calls;
+use crate::world_files::WorldFiles;
 use crate::{Got, Link, LinkErr, Next, OpenFile, Opened};
 use res_base::{List, NoMemory, Text, World};
 use std::alloc::Global;
@@ -19,12 +20,12 @@ const PIECE_BYTES: usize = 65536;
 /// `get`, `open` and `next_piece` are counted together, from 0.
 #[derive(Drop)]
 pub struct MemLink {
-    world: World,
+    files: WorldFiles,
     calls: Calls,
     asked: u64,
     failed: List<Text>,
     reading: Option<OpenFile>,
-    ghost reads_world: { ForSome reading (λ file. IsInWorld world.rows file) },
+    ghost reads_world: { ForSome reading (λ file. IsInWorld files.world.rows file) },
 }
 
 fn url_text(alloc: Global, address: &str, path: &str) -> Result<Text, NoMemory>
@@ -35,15 +36,20 @@ fn url_text(alloc: Global, address: &str, path: &str) -> Result<Text, NoMemory>
 }
 
 impl MemLink {
+    ghost use Rattle.link_base.specs.MemoryLinks.{calls_of, world_of};
+
     /// A link to a world that fails at the calls with these numbers.
     pub fn new(alloc: Global, world: World, failing: List<u64>) -> MemLink
         ensures agrees { ⟦<MemLink as Link>⟧.agrees result world.rows }
         ensures faults { ⟦<MemLink as Link>⟧.faults result ≡ 0 }
         ensures asked { ⟦<MemLink as Link>⟧.asked result ≡ 0 }
         ensures failed { ⟦<MemLink as Link>⟧.failed_urls result ≡ Some [] }
+        ensures closed { ⟦<MemLink as Link>⟧.open_file result ≡ None }
+        ensures world { world_of result ≡ world.rows }
+        ensures calls { calls_of result ≡ no_calls failing }
     {
         MemLink {
-            world,
+            files: WorldFiles::new(alloc, world),
             calls: Calls::new(failing),
             asked: 0,
             failed: List::new(alloc),
@@ -76,7 +82,7 @@ impl MemLink {
 impl Link for MemLink {
     ghost use Rattle.link_base.specs.MemoryLinks.{AgreesWith, asked_of, calls_of, failed_of, faults_of, file_of, world_of};
 
-    ghost agrees = { λ link w. HoldsAs link.world.rows w };
+    ghost agrees = { λ link w. HoldsAs link.files.world.rows w };
 
     ghost faults = { λ link. link.calls.faults };
 
@@ -86,13 +92,7 @@ impl Link for MemLink {
 
     ghost failed_urls = { λ link. Some link.failed };
 
-    fn get(
-        &mut self,
-        alloc: Global,
-        address: &str,
-        path: &str,
-        limit: u64,
-    ) -> Result<Got, LinkErr>
+    fn get(&mut self, alloc: Global, address: &str, path: &str, limit: u64) -> Result<Got, LinkErr>
         ensures answer { (w : Rows) → AgreesWith self.old w → IfOk result (λ got. got ≡ got_of (at w (url_of address.now path.now)) limit) }
         ensures within { IfOk result (FitsLimit limit) }
         ensures cause { HasCause LinkErr.Failed (faults_of self.old) (faults_of self.new) result }
@@ -110,7 +110,8 @@ impl Link for MemLink {
         if fails {
             return Err(self.fail(url));
         }
-        match self.world.at(url.as_str()) {
+        self.files.prepare(alloc)?;
+        match self.files.at(&url) {
             None => Ok(Got::Absent),
             Some(bytes) => {
                 if bytes.len() as u64 > limit {
@@ -145,7 +146,8 @@ impl Link for MemLink {
         if fails {
             return Err(self.fail(url));
         }
-        match self.world.at(url.as_str()) {
+        self.files.prepare(alloc)?;
+        match self.files.at(&url) {
             None => Ok(Opened::Absent),
             Some(_) => {
                 self.reading = Some(OpenFile {
@@ -158,7 +160,7 @@ impl Link for MemLink {
         }
     }
 
-    fn next_piece(&mut self, _alloc: Global, into: &mut Vec<u8>) -> Result<Next, LinkErr>
+    fn next_piece(&mut self, alloc: Global, into: &mut Vec<u8>) -> Result<Next, LinkErr>
         requires { IsSome (file_of self.old) }
         ensures answer { (w : Rows) → AgreesWith self.old w → ForSome (file_of self.old) (λ file. IsNext file (at w file.url) result into.new.items) }
         ensures within { ForSome (file_of self.old) (λ file. IsWithinPiece file result into.new.items) }
@@ -177,7 +179,8 @@ impl Link for MemLink {
         if self.calls.next_fails() {
             return Err(self.fail(file.url));
         }
-        let Some(bytes) = self.world.at(file.url.as_str()) else {
+        self.files.prepare(alloc)?;
+        let Some(bytes) = self.files.at(&file.url) else {
             unreachable!()
         };
         let rest = &bytes[file.given as usize..];
