@@ -1,3 +1,4 @@
+pub mod ByPieces
 mod FirstPlaces
 pub mod Kept
 pub mod PlainPaths

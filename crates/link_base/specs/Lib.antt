@@ -5,6 +5,7 @@ pub mod Memory
 pub mod MemoryClocks
 pub mod MemoryLinks
 pub mod MemorySinks
+pub mod Pieces
 pub mod Places
 pub mod Reading
 pub mod Sinks

@@ -9,6 +9,7 @@ mod memory_calls;
 mod memory_clock;
 mod memory_link;
 mod memory_sink;
+mod pieces;
 mod sinks;
 mod world_files;
 
@@ -18,4 +19,5 @@ pub use links::{Got, Link, Next, OpenFile, Opened};
 pub use memory_clock::MemClock;
 pub use memory_link::MemLink;
 pub use memory_sink::MemSink;
+pub use pieces::get_in_pieces;
 pub use sinks::{Sink, SinkErr};
