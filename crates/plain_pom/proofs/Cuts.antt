@@ -1,10 +1,10 @@
 -- The cut of white space, and what it keeps.
-use Rattle.std.proofs.Common.{◌≡◌, ℕ, ◌+◌, ◌-◌, ◌<◌, ◌≤◌, Bool, true, false, cond, ◌&&◌, List, [], ◌∷◌, ◌++◌, length, take, drop, get_or, reverse, refl, sym, ◌∙◌, ap, arith}
+use Rattle.std.proofs.Common.{◌≡◌, ℕ, ◌+◌, ◌<◌, Bool, true, false, ◌&&◌, List, [], ◌∷◌, ◌++◌, length, take, drop, get_or, reverse, refl, sym, ◌∙◌, ap, arith}
 use Rattle.std.specs.List.{list_all}
 use Rattle.std.proofs.lemmas.Bool.{cond_both, cond-true, cond-false, and_parts, and_from}
-use Rattle.std.proofs.lemmas.List.{drop_more, take_more, reverse-append, reverse-reverse, take-append-drop}
+use Rattle.std.proofs.lemmas.List.{drop_more, take_more, reverse-append, take-append-drop}
 use Rattle.std.proofs.lemmas.List.Folds.{list_all-append}
-use Rattle.plain_pom.specs.PlainTree.{is_between, is_white, is_character, cut_front, cut_back, cut_ends}
+use Rattle.plain_pom.specs.PlainTree.{is_white, is_character, cut_front, cut_ends}
 
 pub cut_front_more : (text : List ℕ) (i : ℕ) → i < length text → is_white (get_or text i 0) ≡ true → cut_front (drop (i + 1) text) ≡ cut_front (drop i text)
 cut_front_more text i h white = sym (ap cut_front (drop_more text i 0 h) ∙ cond-true (is_white (get_or text i 0)) _ _ white)

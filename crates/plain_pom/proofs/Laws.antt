@@ -195,7 +195,7 @@ ready (after_root tree) front fits = tt
 abbrev with_content : Frame → List ℕ → List Tree → Frame
 with_content frame own children = record { name = frame.name; own = frame.own ++ own; children = frame.children ++ children }
 
-apart : (p : ℕ → Bool) (b k : ℕ) → p b ≡ true → p k ≡ false → (b == k) ≡ false
+pub apart : (p : ℕ → Bool) (b k : ℕ) → p b ≡ true → p k ≡ false → (b == k) ≡ false
 apart p b k e f =
     elim (cases_Bool (b == k)) [ inl is ↦ absurd (false≢true (sym f ∙ ap p (sym (eqb-true b k is)) ∙ e)) | inr not ↦ not ]
 

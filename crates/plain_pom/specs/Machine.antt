@@ -1,5 +1,5 @@
 -- The reader of plain trees, byte by byte.
-use Rattle.std.specs.Prelude.{◌≡◌, ℕ, ◌<◌, suc, Bool, true, false, cond, ◌&&◌, length, nat_lt, List, [], ◌∷◌, ◌++◌, Option, Some, None, ◌==◌}
+use Rattle.std.specs.Prelude.{◌≡◌, ℕ, ◌≤◌, Bool, true, cond, ◌&&◌, length, take, nat_lt, List, [], ◌∷◌, ◌++◌, Option, Some, None, ◌==◌}
 use Rattle.std.specs.List.{list_all}
 use Rattle.plain_pom.specs.declared.tree.Tree.{Tree}
 use Rattle.plain_pom.specs.PlainTree.{greatest_depth, is_letter, is_white, is_character, element}
@@ -71,6 +71,20 @@ after_step (Some s) f = f s
 abbrev pub reads : List ℕ → State → Option Tree
 reads [] s = outcome s
 reads (b ∷ text) s = after_step (step s b) (reads text)
+
+abbrev pub then_walks : Option State → (State → Option State) → Option State
+then_walks None f = None
+then_walks (Some s) f = f s
+
+-- the state behind a run of bytes
+abbrev pub walks : List ℕ → State → Option State
+walks [] s = Some s
+walks (b ∷ text) s = then_walks (step s b) (walks text)
+
+-- so many of these bytes lead from a state to another
+pub record IsRun (s t : State) (rest : List ℕ) (used : ℕ) : Type 0 where
+  pub within : used ≤ length rest
+  pub leads : walks (take used rest) s ≡ Some t
 
 -- what an element that may now close has of its own is text
 abbrev pub IsReady : State → Type 0

@@ -7,7 +7,7 @@ use Rattle.plain_pom.specs.Machine.{Frame, before_root, after_bracket, in_start_
 use Rattle.plain_pom.specs.Machine.{State as Reading}
 
 abbrev pub frame_view : Open → Frame
-frame_view frame = record { name = frame.name; own = frame.own; children = frame.children }
+frame_view frame = record { name = frame.name; own = frame.own.items; children = frame.children }
 
 -- the last one of the code is the innermost
 abbrev pub frames_view : List Open → List Frame

@@ -5,6 +5,7 @@
 mod bytes;
 mod lone;
 mod reader;
+mod run;
 mod state;
 mod tree;
 

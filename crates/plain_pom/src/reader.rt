@@ -3,6 +3,7 @@ ghost use Rattle.std.specs.Prelude.{◌≡◌, List, ℕ, IfOk, IsErrOf};
 ghost use Rattle.plain_pom.specs.declared.tree.Tree.{Tree as TreeValue};
 ghost use Rattle.plain_pom.specs.PlainTree.{IsPlainTree};
 
+use crate::run::take_run;
 use crate::state::{State, step, tree_of};
 use crate::tree::Tree;
 use res_base::NoMemory;
@@ -37,9 +38,14 @@ pub fn read_tree(alloc: Global, bytes: &[u8]) -> Result<Tree, PlainErr>
     ensures refused { IsErrOf result PlainErr.NotPlain → (tree : TreeValue) → IsPlainTree bytes.now tree → ⊥ }
 {
     let mut state = State::BeforeRoot;
-    for byte in bytes {
-        match step(alloc, state, *byte)? {
-            Some(next) => state = next,
+    let mut at = 0;
+    while at < bytes.len() {
+        match step(alloc, state, bytes[at])? {
+            Some(next) => {
+                let run = take_run(next, &bytes[at + 1..])?;
+                state = run.state;
+                at += 1 + run.used;
+            }
             None => return Err(PlainErr::NotPlain),
         }
     }

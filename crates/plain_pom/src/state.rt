@@ -18,7 +18,7 @@ pub const GREATEST_DEPTH: usize = 64;
 pub struct Open {
     pub name: Text,
     /// The characters of its own so far.
-    pub own: List<u8>,
+    pub own: Vec<u8>,
     pub children: List<Tree>,
 }
 
@@ -35,7 +35,11 @@ pub enum State {
     AfterRoot(Tree),
 }
 
-fn after_a_bracket(alloc: Global, mut outer: List<Open>, byte: u8) -> Result<Option<State>, NoMemory>
+fn after_a_bracket(
+    alloc: Global,
+    mut outer: List<Open>,
+    byte: u8,
+) -> Result<Option<State>, NoMemory>
     ensures { IfOk result (λ next. option_map state_view next ≡ step_of (after_bracket (frames_view outer)) byte) }
 {
     if is_letter(byte) && outer.len() < GREATEST_DEPTH {
@@ -70,7 +74,7 @@ fn in_a_start_tag(
         Ok(Some(State::InContent(
             Open {
                 name: Text::from_string(name),
-                own: List::new(alloc),
+                own: Vec::new(alloc),
                 children: List::new(alloc),
             },
             outer,
@@ -80,7 +84,11 @@ fn in_a_start_tag(
     }
 }
 
-fn in_a_content(mut element: Open, mut outer: List<Open>, byte: u8) -> Result<Option<State>, NoMemory>
+fn in_a_content(
+    mut element: Open,
+    mut outer: List<Open>,
+    byte: u8,
+) -> Result<Option<State>, NoMemory>
     ensures { IfOk result (λ next. option_map state_view next ≡ step_of (in_content (frame_view element) (frames_view outer)) byte) }
 {
     if byte == b'<' {
@@ -95,7 +103,7 @@ fn in_a_content(mut element: Open, mut outer: List<Open>, byte: u8) -> Result<Op
 }
 
 fn close(alloc: Global, element: Open, mut outer: List<Open>) -> Result<State, NoMemory>
-    requires { list_all character_test element.own ≡ true }
+    requires { list_all character_test element.own.items ≡ true }
     ensures { IfOk result (λ next. state_view next ≡ closed (frame_view element) (frames_view outer)) }
 {
     let tree = Tree {
@@ -119,7 +127,7 @@ fn in_an_end_tag(
     outer: List<Open>,
     byte: u8,
 ) -> Result<Option<State>, NoMemory>
-    requires { list_all character_test element.own ≡ true }
+    requires { list_all character_test element.own.items ≡ true }
     ensures { IfOk result (λ next. option_map state_view next ≡ end_tag_step (take done element.name) (drop done element.name) (frame_view element) (frames_view outer) byte) }
 {
     match element.name.as_bytes().get(done) {

@@ -1,4 +1,4 @@
-use Rattle.std.proofs.Common.{◌≡◌, ℕ, true, get_or, ◌∙◌, ap}
+use Rattle.std.proofs.Common.{◌≡◌, true, ◌∙◌, ap}
 use Rattle.std.specs.List.{list_all}
 use Rattle.plain_pom.specs.PlainTree.{is_character, cut_back, cut_ends}
 use Rattle.plain_pom.proofs.Cuts.{ends_pass, passes_at, character_below}
