@@ -4,9 +4,10 @@ use Rattle.std.specs.Prelude.{IfSome, ◌==◌, nat_le}
 use Rattle.std.proofs.lemmas.Bool.{cond_both, and_parts, and_from, and_right, eqb-true, cases_Bool, lt-leb}
 use Rattle.std.proofs.lemmas.List.{append_assoc, append-nil}
 use Rattle.fault_place.specs.Reader.{reads, IsRight}
+use Rattle.res_base.specs.Builders.{coord_of}
 use Rattle.res_base.specs.Plain.{is_word_byte, is_plain_byte, every, is_dot, goes_on_as_org, is_plain_org, is_plain_name, is_at_most_two_dots}
 use Rattle.res_base.specs.CoordText.{is_constraint_byte, is_constraint_text, IsCoordText}
-use Rattle.res_base.specs.CoordReader.{State, in_org, in_name, in_constraint, coord_of, step, outcome, Fits, coord_reader}
+use Rattle.res_base.specs.CoordReader.{State, in_org, in_name, in_constraint, step, outcome, Fits, coord_reader}
 use Rattle.res_base.specs.declared.coord.Coord.{Coord}
 
 every-append : (test : ℕ → Bool) (xs ys : List ℕ) → every test xs ≡ true → every test ys ≡ true → every test (xs ++ ys) ≡ true

@@ -1,13 +1,13 @@
 -- The steps of the reader of coordinates, at a place of a text.
-use Rattle.std.proofs.Common.{◌≡◌, ℕ, ◌+◌, ◌-◌, ◌<◌, ◌≤◌, Bool, true, false, ◌&&◌, List, [], ◌∷◌, ◌++◌, length, take, drop, get_or, Some, None, refl, ◌∙◌, ap, subst, arith}
+use Rattle.std.proofs.Common.{◌≡◌, ℕ, ◌+◌, ◌-◌, ◌<◌, ◌≤◌, Bool, true, false, ◌&&◌, List, [], ◌∷◌, ◌++◌, length, take, drop, get_or, Option, Some, None, refl, ◌∙◌, ap, subst, arith}
 use Rattle.std.specs.Prelude.{◌==◌, slice_range}
 use Rattle.std.proofs.lemmas.List.{take_more, get_or-drop, length-drop}
 use Rattle.fault_place.specs.Place.{IsPlace}
 use Rattle.fault_place.specs.Reader.{At, Accepts}
-use Rattle.fault_place.proofs.Readers.{step_at, stops_at, ends_at, ends_with}
+use Rattle.fault_place.proofs.Readers.{step_at, stops_at, ends_at, ends_with, at_start, spelled as read_spelled}
 use Rattle.res_base.specs.Plain.{is_word_byte, is_plain_byte, is_dot, is_plain_name}
 use Rattle.res_base.specs.CoordText.{is_constraint_byte, IsCoordText}
-use Rattle.res_base.specs.CoordReader.{State, in_org, in_name, in_constraint, step, outcome, coord_reader}
+use Rattle.res_base.specs.CoordReader.{State, in_org, in_name, in_constraint, step, outcome, coord_in, coord_reader}
 use Rattle.res_base.specs.declared.coord.Coord.{Coord}
 use Rattle.res_base.proofs.CoordReaderRight.{right}
 
@@ -65,3 +65,17 @@ in_constraint_more text org name from i h k here e =
 
 pub constraint_stuck : (org name text : List ℕ) (b : ℕ) → is_constraint_byte b ≡ false → step (in_constraint org name text) b ≡ None
 constraint_stuck org name text b e = rw e refl
+
+-- what a text spells is what is in it, and nothing is in a text that spells none
+pub in_spelled : (text : List ℕ) (coord : Coord) → IsCoordText text coord → coord_in text ≡ Some coord
+in_spelled = right.takes
+
+pub none_outside : (text : List ℕ) → (Accepts IsCoordText text → ⊥) → coord_in text ≡ None
+none_outside text outside = by (coord_in text) refl
+  where
+    by : (o : Option Coord) → coord_in text ≡ o → o ≡ None
+    by None e = refl
+    by (Some coord) e = absurd (outside (coord, read_spelled right text [] coord_reader.start coord (at_start right) e))
+
+pub none_at_place : (bytes text : List ℕ) (place : ℕ) → bytes ≡ text → IsPlace (Accepts IsCoordText) bytes place → coord_in text ≡ None
+none_at_place bytes text place same at = subst (λ x. coord_in x ≡ None) same (none_outside bytes at.outside)

@@ -1,3 +1,5 @@
 pub mod CoordReaderRight
 pub mod CoordSteps
+pub mod PathShapes
+pub mod PathsApart
 pub mod Slashes

@@ -1,6 +1,7 @@
 -- A reader of coordinates that goes over their text byte by byte.
 use Rattle.std.specs.Prelude.{◌≡◌, ℕ, Bool, true, false, cond, ◌&&◌, List, [], ◌∷◌, ◌++◌, Option, Some, None, ◌==◌}
-use Rattle.fault_place.specs.Reader.{Reader}
+use Rattle.fault_place.specs.Reader.{Reader, reads}
+use Rattle.res_base.specs.Builders.{coord_of}
 use Rattle.res_base.specs.Plain.{is_word_byte, is_plain_byte, every, is_dot, goes_on_as_org, is_plain_org, is_plain_name}
 use Rattle.res_base.specs.CoordText.{is_constraint_byte, is_constraint_text}
 use Rattle.res_base.specs.declared.coord.Coord.{Coord}
@@ -10,9 +11,6 @@ pub data State : Type 0 where
   in_org : List ℕ → Bool → State
   in_name : List ℕ → List ℕ → State
   in_constraint : List ℕ → List ℕ → List ℕ → State
-
-abbrev pub coord_of : List ℕ → List ℕ → List ℕ → Coord
-coord_of org name version = record { «module» = record { org = org; name = name }; version = version }
 
 abbrev pub step : State → ℕ → Option State
 step (in_org org in_part) b = cond (is_word_byte b) (Some (in_org (org ++ b ∷ []) true)) (cond (is_dot b && in_part) (Some (in_org (org ++ b ∷ []) false)) (cond (b == 58 && in_part) (Some (in_name org [])) None))
@@ -47,3 +45,7 @@ Fits (in_constraint org name text) front = FitsConstraint org name text front
 
 abbrev pub coord_reader : Reader State Coord
 coord_reader = record { start = in_org [] false; step = step; outcome = outcome; Fits = Fits }
+
+-- the coordinate that a text spells, where it spells one
+abbrev pub coord_in : List ℕ → Option Coord
+coord_in text = reads coord_reader text coord_reader.start

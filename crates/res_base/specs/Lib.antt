@@ -1,7 +1,10 @@
+pub mod Builders
 pub mod CoordReader
 pub mod CoordText
+pub mod Known
 pub mod Names
 pub mod Paths
 pub mod Plain
+pub mod Rows
 pub mod World
 pub mod formers

@@ -1,5 +1,5 @@
 -- Where a repository keeps its files: the Maven 2 repository layout.
-use Rattle.std.specs.Prelude.{ℕ, List, ◌∷◌, ◌++◌, codes, map, ◌==◌, if◌then◌else◌}
+use Rattle.std.specs.Prelude.{ℕ, List, [], ◌∷◌, ◌++◌, codes, map, ◌==◌, if◌then◌else◌}
 use Rattle.res_base.specs.declared.coord.Coord.{Coord}
 use Rattle.res_base.specs.declared.coord.Module.{Module}
 
@@ -21,3 +21,18 @@ file_stem c = module_folder c.«module» ++ 47 ∷ (c.version ++ 47 ∷ (c.«mod
 
 abbrev pub pom_path_of : Coord → List ℕ
 pom_path_of c = file_stem c ++ codes ".pom"
+
+-- a dash before a classifier, and nothing before none
+abbrev pub dash_of : List ℕ → List ℕ
+dash_of [] = []
+dash_of (_ ∷ _) = 45 ∷ []
+
+abbrev pub file_path_of : Coord → List ℕ → List ℕ → List ℕ
+file_path_of c ext classifier = file_stem c ++ (dash_of classifier ++ (classifier ++ 46 ∷ ext))
+
+abbrev pub listing_path_of : Module → List ℕ
+listing_path_of m = module_folder m ++ codes "/maven-metadata.xml"
+
+-- the URL of a path below a repository's address
+abbrev pub url_at : List ℕ → List ℕ → List ℕ
+url_at address path = address ++ 47 ∷ path

@@ -1,9 +1,10 @@
 //! Coordinates in text.
-ghost use Rattle.std.specs.Prelude.{◌≡◌, ℕ, ◌+◌, ◌<◌, [], length, take, drop, slice_range, slice_index, IfOk, IfErr, IsErrOf};
+ghost use Rattle.std.specs.Prelude.{◌≡◌, ℕ, ◌+◌, ◌<◌, [], Some, None, length, take, drop, slice_range, slice_index, IfOk, IfErr, IsErrOf};
 ghost use Rattle.fault_place.specs.Place.{IsPlace};
 ghost use Rattle.fault_place.specs.Reader.{At, Accepts};
 ghost use Rattle.res_base.specs.CoordText.{is_constraint_byte as constraint_byte_test, IsCoordText};
-ghost use Rattle.res_base.specs.CoordReader.{coord_of, coord_reader, in_name, in_constraint};
+ghost use Rattle.res_base.specs.Builders.{coord_of};
+ghost use Rattle.res_base.specs.CoordReader.{coord_in, coord_reader, in_name, in_constraint};
 
 use crate::plain::{is_plain_byte, is_plain_name, is_word_byte};
 use crate::{Coord, Module, NoMemory, Text};
@@ -99,6 +100,8 @@ fn constraint_end(text: &[u8], first: usize, second: usize) -> Result<(), usize>
 /// intervals, which become the version.
 pub fn parse_coord(alloc: Global, text: &str) -> Result<Coord, CoordErr>
     ensures read { IfOk result (IsCoordText text.now) }
+    ensures value { IfOk result (λ coord. coord_in text.now ≡ Some coord) }
+    ensures none { (n : ℕ) → IsErrOf result (CoordErr.BadCoord n) → coord_in text.now ≡ None }
     ensures refused { (n : ℕ) → IsErrOf result (CoordErr.BadCoord n) → IsPlace (Accepts IsCoordText) text.now n }
 {
     let bytes = text.as_bytes();

@@ -93,6 +93,7 @@ impl<T: Drop> List<T> {
     /// Moves the items of `more` to the end.
     pub fn append(&mut self, more: List<T>) -> Result<(), NoMemory>
         ensures ok { OnOk result (self.new ≡ self.old ++ more) }
+        ensures err { OnErr result (self.new ≡ self.old) }
     {
         let List { items: mut moved } = more;
         self.items.append(&mut moved)?;
