@@ -3,13 +3,13 @@ ghost use Rattle.std.specs.Prelude.{◌≡◌, [], ◌∷◌, ◌++◌, None, So
 ghost use Rattle.std.specs.Option.{ForSome};
 ghost use Rattle.link_base.specs.Causes.{counted, HasCause};
 ghost use Rattle.link_base.specs.Links.{Rows, url_of, got_of, FitsLimit, opened_of, file_after_open, file_after_piece, failed_after, url_of_file, IsNext, IsWithinPiece, LinkKept};
-ghost use Rattle.link_base.specs.Memory.{HoldsAs, IsNextCall, no_calls};
+ghost use Rattle.link_base.specs.Memory.{HoldsAs, IsNextCall, is_to_fail, no_calls};
 ghost use Rattle.res_base.specs.World.{at};
 ghost use Rattle.link_base.specs.Reading.{IsInWorld};
 
 use crate::memory_calls::Calls;
 use crate::world_files::WorldFiles;
-use crate::{Got, Link, LinkErr, Next, OpenFile, Opened};
+use crate::{Got, Link, LinkErr, Next, OpenFile, Opened, url_text};
 use res_base::{List, NoMemory, Text, World};
 use std::alloc::Global;
 
@@ -26,13 +26,6 @@ pub struct MemLink {
     failed: List<Text>,
     reading: Option<OpenFile>,
     ghost reads_world: { ForSome reading (λ file. IsInWorld files.world.rows file) },
-}
-
-fn url_text(alloc: Global, address: &str, path: &str) -> Result<Text, NoMemory>
-    ensures { IfOk result (λ url. url ≡ url_of address.now path.now) }
-{
-    let url = format!(in alloc; "{address}/{path}")?;
-    Ok(Text::from_string(url))
 }
 
 impl MemLink {
@@ -62,6 +55,20 @@ impl MemLink {
         ensures { result ≡ ⟦<MemLink as Link>⟧.asked self.now }
     {
         self.asked
+    }
+
+    // A `get` or an `open` begins, which closes an open file. Says whether it is to fail.
+    fn begin(&mut self) -> bool
+        ensures fails { result ≡ is_to_fail self.old.calls }
+        ensures asked { self.new.asked ≡ counted self.old.asked }
+        ensures closed { self.new.reading ≡ None }
+        ensures calls { self.new.calls ≡ record self.old.calls { made = counted self.old.calls.made } }
+        ensures files { self.new.files ≡ self.old.files }
+        ensures failed { self.new.failed ≡ self.old.failed }
+    {
+        self.asked = self.asked.saturating_add(1);
+        self.reading = None;
+        self.calls.next_fails()
     }
 
     // Notes that a call at a URL failed.
@@ -103,9 +110,7 @@ impl Link for MemLink {
         ensures world { world_of self.new ≡ world_of self.old }
         ensures call { IsNextCall LinkErr.Failed (calls_of self.old) (calls_of self.new) result }
     {
-        self.asked = self.asked.saturating_add(1);
-        self.reading = None;
-        let fails = self.calls.next_fails();
+        let fails = self.begin();
         let url = url_text(alloc, address, path)?;
         if fails {
             return Err(self.fail(url));
@@ -139,9 +144,7 @@ impl Link for MemLink {
         ensures world { world_of self.new ≡ world_of self.old }
         ensures call { IsNextCall LinkErr.Failed (calls_of self.old) (calls_of self.new) result }
     {
-        self.asked = self.asked.saturating_add(1);
-        self.reading = None;
-        let fails = self.calls.next_fails();
+        let fails = self.begin();
         let url = url_text(alloc, address, path)?;
         if fails {
             return Err(self.fail(url));
@@ -203,6 +206,6 @@ impl Link for MemLink {
     }
 
     fn close_file(&mut self) {
-        self.reading = None;
+        let _closed = self.reading.take();
     }
 }

@@ -1,0 +1,157 @@
+//! Links to folders.
+ghost use Rattle.std.specs.Prelude.{◌≡◌, ◌≤◌, None};
+ghost use Rattle.std.specs.Option.{option_map};
+ghost use Rattle.link_base.specs.Causes.{counted};
+
+use crate::folders::{Found, file_name, find};
+use crate::pieces::{read_next, read_whole};
+use link_base::{Got, Link, LinkErr, Next, OpenFile, Opened, url_text};
+use res_base::NoMemory;
+use std::alloc::Global;
+use std::fs::Files;
+
+/// The greatest number of bytes in a piece.
+const PIECE_BYTES: usize = 65536;
+
+/// A file that is given in pieces.
+#[derive(Drop)]
+struct Reading<F> {
+    file: F,
+    place: OpenFile,
+    ghost within: { place.given ≤ place.limit },
+}
+
+/// Gives the files of folders, which `file:` addresses name: `file:/srv/maven`, or `file:maven`
+/// below the folder that the program runs in. A file that isn't there is absent. A folder in its
+/// place, a name that goes through a file, and what the system refuses are faults. It has no way
+/// to other addresses, so these are faults too.
+#[derive(Drop)]
+pub struct RealLink<R: Files> {
+    runtime: R,
+    asked: u64,
+    faults: u64,
+    reading: Option<Reading<R::File>>,
+}
+
+impl<R: Files> RealLink<R> {
+    /// A link that reads files through a runtime.
+    pub fn new(runtime: R) -> RealLink<R> {
+        RealLink {
+            runtime,
+            asked: 0,
+            faults: 0,
+            reading: None,
+        }
+    }
+
+    // Counts a fault.
+    fn fail(&mut self) -> LinkErr
+        ensures failed { result ≡ LinkErr.Failed }
+        ensures counts { self.new ≡ record self.old { faults = counted self.old.faults } }
+    {
+        self.faults = self.faults.saturating_add(1);
+        LinkErr::Failed
+    }
+
+    // What stands at a path in the folder of an address.
+    fn find(&self, alloc: Global, address: &str, path: &str) -> Result<Found<R::File>, NoMemory> {
+        match file_name(alloc, address, path)? {
+            Some(name) => Ok(find(&self.runtime, name.as_str())),
+            None => Ok(Found::Fault),
+        }
+    }
+}
+
+impl<R: Files + Drop> Link for RealLink<R> {
+    ghost agrees = { λ link w. ⊥ };
+
+    ghost faults = { λ link. link.faults };
+
+    ghost asked = { λ link. link.asked };
+
+    ghost open_file = { λ link. option_map (λ reading. reading.place) link.reading };
+
+    ghost failed_urls = { λ link. None };
+
+    fn get(
+        &mut self,
+        alloc: Global,
+        address: &str,
+        path: &str,
+        limit: u64,
+    ) -> Result<Got, LinkErr> {
+        self.asked = self.asked.saturating_add(1);
+        self.reading = None;
+        match self.find(alloc, address, path)? {
+            Found::Absent => Ok(Got::Absent),
+            Found::Fault => Err(self.fail()),
+            Found::File(file) => match read_whole(alloc, file, limit) {
+                Ok(got) => Ok(got),
+                Err(LinkErr::Failed) => Err(self.fail()),
+                Err(LinkErr::NoMemory) => Err(LinkErr::NoMemory),
+            },
+        }
+    }
+
+    fn open(
+        &mut self,
+        alloc: Global,
+        address: &str,
+        path: &str,
+        limit: u64,
+    ) -> Result<Opened, LinkErr> {
+        self.asked = self.asked.saturating_add(1);
+        self.reading = None;
+        let url = url_text(alloc, address, path)?;
+        match self.find(alloc, address, path)? {
+            Found::Absent => Ok(Opened::Absent),
+            Found::Fault => Err(self.fail()),
+            Found::File(file) => {
+                let place = OpenFile {
+                    url,
+                    limit,
+                    given: 0,
+                };
+                self.reading = Some(Reading { file, place });
+                Ok(Opened::Ready)
+            }
+        }
+    }
+
+    fn next_piece(&mut self, _alloc: Global, into: &mut Vec<u8>) -> Result<Next, LinkErr> {
+        into.clear();
+        let Some(
+            Reading {
+                mut file,
+                mut place,
+            },
+        ) = self.reading.take()
+        else {
+            unreachable!()
+        };
+        let room = place.limit - place.given;
+        let count = room.max(1).min(PIECE_BYTES as u64) as usize;
+        match read_next(&mut file, count, into) {
+            Err(LinkErr::Failed) => Err(self.fail()),
+            Err(LinkErr::NoMemory) => Err(LinkErr::NoMemory),
+            Ok(()) if into.is_empty() => Ok(Next::End),
+            Ok(()) if room == 0 => {
+                into.clear();
+                Ok(Next::TooLarge)
+            }
+            Ok(()) => {
+                place.given += into.len() as u64;
+                self.reading = Some(Reading { file, place });
+                Ok(Next::Piece)
+            }
+        }
+    }
+
+    fn is_open(&self) -> bool {
+        self.reading.is_some()
+    }
+
+    fn close_file(&mut self) {
+        self.reading = None;
+    }
+}
