@@ -1,0 +1,58 @@
+-- From the first link to all of them, and from what holds of less to what holds of more.
+use Rattle.std.proofs.Common.{◌≡◌, ◌⊎◌, ◌≤◌, ◌<◌, ◌+◌, ℕ, List, [], ◌∷◌, Option, get_or, inl, inr, arith, length, drop, All, Any, sum_by, slice_set, subst, ap, sym, refl, ⊎_elim}
+use Rattle.std.proofs.lemmas.List.Sums.{sum_by-cons}
+use Rattle.std.specs.List.{AllZip}
+use Rattle.link_base.proofs.Zipped.{zip_refl}
+use Rattle.link_base.specs.Causes.{Rose, count_end}
+use Rattle.link_base.specs.Links.{Rows}
+use Rattle.coursier_run.specs.declared.said.Said.{Said}
+use Rattle.coursier_run.specs.Outcomes.{IsCut, IsSaid, whole, cut_out, cut_err, Ends, says, no_memory, Streams}
+use Rattle.coursier_run.specs.Answers.{IsJustified, refused, not_built_words, answers, link_failed, RoseTogether}
+
+rose_cases : (a b : ℕ) → Rose a b → (a < b) ⊎ (count_end ≤ b)
+rose_cases a b rose = grind arith
+
+-- the first count rose, so the counts together did
+pub rose_first : {L : Type 0} (f : L → ℕ) (xs : List L) (x y : L) → 0 < length xs → x ≡ get_or xs 0 x → Rose (f x) (f y) → RoseTogether f xs (slice_set xs 0 y)
+rose_first f [] x y some is rose = absurd (omega arith)
+rose_first f (z ∷ zs) x y some is rose =
+    let here : f z ≡ f x = ap f (sym is) in
+    ⊎_elim (λ less. inl (omega (arith, sum_by-cons f z zs, sum_by-cons f y zs))) (λ end. inr (0, y, omega arith, refl, end)) (rose_cases (f x) (f y) rose)
+
+pub all_first : {L : Type 0} (P : L → Type 0) (xs : List L) (x : L) → 0 < length xs → x ≡ get_or xs 0 x → All P xs → P x
+all_first P xs x some is all = subst P (sym is) (all 0 x some)
+
+-- only the first element changed
+pub zip_first : {L : Type 0} (R : L → L → Type 0) → ((l : L) → R l l) → (xs : List L) (x y : L) → 0 < length xs → x ≡ get_or xs 0 x → R x y → AllZip R xs (slice_set xs 0 y)
+zip_first R r [] x y some is related = absurd (omega arith)
+zip_first R r (z ∷ zs) x y some is related = (subst (λ v. R v y) is related, zip_refl R r zs)
+
+-- the others stay as they were
+pub drop-set_first : {L : Type 0} (xs : List L) (y : L) → drop 1 (slice_set xs 0 y) ≡ drop 1 xs
+drop-set_first [] y = refl
+drop-set_first (x ∷ xs) y = refl
+
+-- all stay as they were where the first does
+pub set_first_same : {L : Type 0} (xs : List L) (x y : L) → 0 < length xs → x ≡ get_or xs 0 x → y ≡ x → slice_set xs 0 y ≡ xs
+set_first_same [] x y some is same = absurd (omega arith)
+set_first_same (z ∷ zs) x y some is same = cc
+
+pub justified_wider : (A B : Rows → Type 0) (rose rose' : Type 0) (words : List (List ℕ)) (said : Said) → ((w : Rows) → B w → A w) → (rose → rose')
+    → IsJustified A rose words said → IsJustified B rose' words said
+justified_wider A B rose rose' words said a r (refused kind place read is) = refused kind place read is
+justified_wider A B rose rose' words said a r (not_built_words read is) = not_built_words read is
+justified_wider A B rose rose' words said a r (answers job read is h) = answers job read is (λ w b. h w (a w b))
+justified_wider A B rose rose' words said a r (link_failed job read plain is rises) = link_failed job read plain is (r rises)
+
+cut_wider : (a b : Type 0) (status : ℕ) → (a → b) → IsCut a status → IsCut b status
+cut_wider a b status f (inl five) = inl five
+cut_wider a b status f (inr six) = inr (six.0, f six.1)
+
+said_wider : (s : Streams) (out out' err : Type 0) (said : Said) (status : ℕ) → (out → out') → IsSaid s out err said status → IsSaid s out' err said status
+said_wider s out out' err said status f (whole told) = whole told
+said_wider s out out' err said status f (cut_out is cut parts) = cut_out is (cut_wider (out ⊎ err) (out' ⊎ err) status (⊎_elim (λ o. inl (f o)) (λ e. inr e)) cut) parts
+said_wider s out out' err said status f (cut_err is cut parts) = cut_err is cut parts
+
+pub ends_wider : (J J' : Said → Type 0) (s : Streams) (out out' err : Type 0) (status : ℕ) → ((said : Said) → J said → J' said) → (out → out') → Ends J s out err status → Ends J' s out' err status
+ends_wider J J' s out out' err status j f (says said justified is) = says said (j said justified) (said_wider s out out' err said status f is)
+ends_wider J J' s out out' err status j f (no_memory cut parts) = no_memory cut parts

@@ -1,0 +1,9 @@
+pub mod Addresses
+pub mod Answers
+pub mod Bytes
+pub mod Coordinates
+pub mod Lines
+pub mod Outcomes
+pub mod Promises
+pub mod Said
+pub mod Words

@@ -1,0 +1,30 @@
+// Plain versions.
+ghost use Rattle.std.specs.Prelude.{◌≡◌};
+ghost use Rattle.std.specs.List.{list_all};
+ghost use Rattle.res_base.specs.Plain as plain;
+ghost use Rattle.coursier_run.specs.Words as words;
+
+use crate::bytes::is_plain_byte;
+
+fn is_floating(text: &str) -> bool
+    ensures { result ≡ words.is_floating text.now }
+{
+    text == "latest.release"
+        || text == "latest.integration"
+        || text == "LATEST"
+        || text == "RELEASE"
+}
+
+fn has_version_bytes(text: &[u8]) -> bool
+    ensures { result ≡ list_all plain.is_plain_byte text.now }
+{
+    text.iter().all(|byte| is_plain_byte(*byte))
+}
+
+/// Whether a text names one version, and neither an interval of versions nor one that floats.
+pub fn is_plain_version(text: &str) -> bool
+    ensures { result ≡ words.is_plain_version text.now }
+{
+    let bytes = text.as_bytes();
+    !is_floating(text) && !bytes.ends_with(b"+") && has_version_bytes(bytes)
+}
