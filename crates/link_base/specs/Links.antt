@@ -1,6 +1,7 @@
 -- What a link answers, and what each call keeps.
 use Rattle.std.specs.Prelude.{ℕ, ◌≡◌, ◌≤◌, ◌+◌, ◌++◌, ◌<◌, List, [], ◌∷◌, Option, Some, None, if◌then◌else◌, length, take, drop, nat_le, codes, Result, Ok, Err}
 use Rattle.std.specs.Option.{option_map}
+use Rattle.res_base.specs.Paths.{url_at}
 use Rattle.res_base.specs.declared.world.WorldRow.{WorldRow}
 use Rattle.link_base.specs.declared.links.OpenFile.{OpenFile}
 use Rattle.link_base.specs.declared.links.Got.{Got}
@@ -18,7 +19,7 @@ Rows = List WorldRow
 
 -- the URL of a path at an address
 abbrev pub url_of : List ℕ → List ℕ → List ℕ
-url_of address path = address ++ (codes "/" ++ path)
+url_of = url_at
 
 -- what is to be got of a file, or of none, under a limit
 abbrev pub got_of : Option (List ℕ) → ℕ → Got

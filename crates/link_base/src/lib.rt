@@ -11,7 +11,6 @@ mod memory_link;
 mod memory_sink;
 mod pieces;
 mod sinks;
-mod urls;
 mod world_files;
 
 pub use clocks::Clock;
@@ -22,4 +21,3 @@ pub use memory_link::MemLink;
 pub use memory_sink::MemSink;
 pub use pieces::get_in_pieces;
 pub use sinks::{Sink, SinkErr};
-pub use urls::url_text;

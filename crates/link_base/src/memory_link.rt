@@ -9,8 +9,8 @@ ghost use Rattle.link_base.specs.Reading.{IsInWorld};
 
 use crate::memory_calls::Calls;
 use crate::world_files::WorldFiles;
-use crate::{Got, Link, LinkErr, Next, OpenFile, Opened, url_text};
-use res_base::{List, NoMemory, Text, World};
+use crate::{Got, Link, LinkErr, Next, OpenFile, Opened};
+use res_base::{List, NoMemory, Text, World, url_of};
 use std::alloc::Global;
 
 /// The greatest number of bytes in a piece.
@@ -111,7 +111,7 @@ impl Link for MemLink {
         ensures call { IsNextCall LinkErr.Failed (calls_of self.old) (calls_of self.new) result }
     {
         let fails = self.begin();
-        let url = url_text(alloc, address, path)?;
+        let url = url_of(alloc, address, path)?;
         if fails {
             return Err(self.fail(url));
         }
@@ -145,7 +145,7 @@ impl Link for MemLink {
         ensures call { IsNextCall LinkErr.Failed (calls_of self.old) (calls_of self.new) result }
     {
         let fails = self.begin();
-        let url = url_text(alloc, address, path)?;
+        let url = url_of(alloc, address, path)?;
         if fails {
             return Err(self.fail(url));
         }

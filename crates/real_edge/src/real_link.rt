@@ -5,8 +5,8 @@ ghost use Rattle.link_base.specs.Causes.{counted};
 
 use crate::folders::{Found, file_name, find};
 use crate::pieces::{read_next, read_whole};
-use link_base::{Got, Link, LinkErr, Next, OpenFile, Opened, url_text};
-use res_base::NoMemory;
+use link_base::{Got, Link, LinkErr, Next, OpenFile, Opened};
+use res_base::{NoMemory, url_of};
 use std::alloc::Global;
 use std::fs::Files;
 
@@ -102,7 +102,7 @@ impl<R: Files + Drop> Link for RealLink<R> {
     ) -> Result<Opened, LinkErr> {
         self.asked = self.asked.saturating_add(1);
         self.reading = None;
-        let url = url_text(alloc, address, path)?;
+        let url = url_of(alloc, address, path)?;
         match self.find(alloc, address, path)? {
             Found::Absent => Ok(Opened::Absent),
             Found::Fault => Err(self.fail()),
