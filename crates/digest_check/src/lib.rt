@@ -1,0 +1,10 @@
+//! Digests of files, and the digest that a checksum file holds.
+#![tactic(auto)]
+
+mod checksum;
+mod sums;
+#[cfg(test)]
+mod tests;
+
+pub use checksum::{find_digest, suffix};
+pub use sums::{Digests, Sums};

@@ -1,0 +1,74 @@
+//! Three digests at once.
+ghost use Rattle.std.specs.Prelude.{◌≡◌, ℕ, List, [], ◌++◌};
+ghost use Rattle.digest_check.specs.Digests.{digest_by, digests_of};
+ghost use Rattle.digest_check.specs.Fed.{IsFed};
+
+use md5::{Digest as Md5Digest, Md5};
+use res_base::{Check, Digest};
+use sha1::Sha1;
+use sha2::{Digest as Sha2Digest, Sha256};
+
+/// Takes the bytes of a file in pieces, and gives the file's SHA-1 (FIPS 180-4), MD5 (RFC 1321) and
+/// SHA-256 (FIPS 180-4).
+#[derive(Drop)]
+pub struct Sums {
+    sha1: Sha1,
+    md5: Md5,
+    sha256: Sha256,
+}
+
+/// The three digests of a file.
+#[derive(Clone, Copy, Debug, PartialEq, Eq, Drop)]
+pub struct Digests {
+    pub sha1: [u8; 20],
+    pub md5: [u8; 16],
+    pub sha256: [u8; 32],
+}
+
+impl Sums {
+    /// Before the first byte.
+    pub fn new() -> Sums
+        ensures { IsFed result [] }
+    {
+        Sums {
+            sha1: Sha1::new(),
+            md5: Md5::new(),
+            sha256: Sha256::new(),
+        }
+    }
+
+    /// Takes the next bytes.
+    pub fn update(&mut self, bytes: &[u8])
+        ensures { (before : List ℕ) → IsFed self.old before → IsFed self.new (before ++ bytes.now) }
+    {
+        self.sha1.update(bytes);
+        self.md5.update(bytes);
+        self.sha256.update(bytes);
+    }
+
+    /// The digests of all bytes that were taken.
+    pub fn finish(self) -> Digests
+        ensures { (all : List ℕ) → IsFed self all → result ≡ digests_of all }
+    {
+        let Sums { sha1, md5, sha256 } = self;
+        Digests {
+            sha1: sha1.finalize(),
+            md5: md5.finalize(),
+            sha256: sha256.finalize(),
+        }
+    }
+}
+
+impl Digests {
+    /// The digest that a check compares; `NoCheck` compares none.
+    pub fn by(&self, check: Check) -> Option<Digest>
+        ensures { result ≡ digest_by check self.now }
+    {
+        match check {
+            Check::Sha1 => Some(Digest::Sha1(self.sha1)),
+            Check::Md5 => Some(Digest::Md5(self.md5)),
+            Check::Sha256 => Some(Digest::Sha256(self.sha256)),
+            Check::NoCheck => None,
+        }
+    }
+}
