@@ -10,6 +10,7 @@ use Rattle.res_base.specs.declared.reading.Answer.{Answer}
 use Rattle.res_base.specs.declared.reading.Answer.TheVariants as answers
 use Rattle.res_base.specs.declared.reading.Check.{Check}
 use Rattle.res_base.specs.declared.reading.Check.TheVariants as checks
+use Rattle.res_base.specs.declared.reading.Damage.{Damage}
 use Rattle.res_base.specs.declared.reading.Digest.{Digest}
 use Rattle.res_base.specs.declared.world.WorldRow.{WorldRow}
 use Rattle.digest_check.specs.ChecksumFiles.{digest_in, suffix_of}
@@ -31,11 +32,18 @@ in_short_file check file = if nat_le (length file) checksum_limit then digest_in
 abbrev pub wanted : Held → List ℕ → Check → Option Digest
 wanted held url check = option_and_then (in_short_file check) (held (url ++ suffix_of check))
 
+-- the damage where bytes do not have the digest that a check wants
+abbrev pub damage_of : Check → Digest → Option Digest → Option Damage
+damage_of check digest got = if option_eq digest_eq got (Some digest) then None else Some (record { check = check; wanted = Some digest; got = got })
+
+abbrev pub unless_damaged : Option Damage → List ℕ → Answer
+unless_damaged None bytes = answers.Bytes bytes
+unless_damaged (Some damage) bytes = answers.Damaged damage
+
 -- A check with a wanted digest decides by the digest that the bytes have; without one the later checks do.
 abbrev pub decided : Check → Option Digest → Option Digest → List ℕ → Answer → Answer
 decided check None got bytes later = later
-decided check (Some digest) got bytes later =
-    if option_eq digest_eq got (Some digest) then answers.Bytes bytes else answers.Damaged (record { check = check; wanted = Some digest; got = got })
+decided check (Some digest) got bytes later = unless_damaged (damage_of check digest got) bytes
 
 -- the bytes at a URL under a list of checks
 abbrev pub checked : Held → List ℕ → List ℕ → List Check → Answer

@@ -1,10 +1,11 @@
 //! Three digests at once.
 ghost use Rattle.std.specs.Prelude.{◌≡◌, ℕ, List, [], ◌++◌};
-ghost use Rattle.digest_check.specs.Digests.{digest_by, digests_of};
+ghost use Rattle.digest_check.specs.Answers.{damage_of};
+ghost use Rattle.digest_check.specs.Digests.{digest_by, digest_of, digests_of};
 ghost use Rattle.digest_check.specs.Fed.{IsFed};
 
 use md5::{Digest as Md5Digest, Md5};
-use res_base::{Check, Digest};
+use res_base::{Check, Damage, Digest};
 use sha1::Sha1;
 use sha2::{Digest as Sha2Digest, Sha256};
 
@@ -62,13 +63,30 @@ impl Sums {
 impl Digests {
     /// The digest that a check compares; `NoCheck` compares none.
     pub fn by(&self, check: Check) -> Option<Digest>
-        ensures { result ≡ digest_by check self.now }
+        ensures value { result ≡ digest_by check self.now }
+        ensures bytes { (all : List ℕ) → self.now ≡ digests_of all → result ≡ digest_of check all }
     {
         match check {
             Check::Sha1 => Some(Digest::Sha1(self.sha1)),
             Check::Md5 => Some(Digest::Md5(self.md5)),
             Check::Sha256 => Some(Digest::Sha256(self.sha256)),
             Check::NoCheck => None,
+        }
+    }
+
+    /// The damage of a file with these digests, where a check wants another one.
+    pub fn damage(&self, check: Check, wanted: Digest) -> Option<Damage>
+        ensures { result ≡ damage_of check wanted (digest_by check self.now) }
+    {
+        let got = self.by(check);
+        if got == Some(wanted) {
+            None
+        } else {
+            Some(Damage {
+                check,
+                wanted: Some(wanted),
+                got,
+            })
         }
     }
 }
