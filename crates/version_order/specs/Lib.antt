@@ -1,0 +1,12 @@
+pub mod RankValue
+pub mod Items
+pub mod Cutting
+pub mod Ranks
+pub mod Kept
+pub mod Order
+pub mod Rows
+pub mod Constraints
+pub mod ConstraintReader
+pub mod Shapes
+pub mod Refusals
+pub mod ConstraintRows

@@ -1,0 +1,13 @@
+//! Versions after Maven's order: their items, the order by items, the full order, and constraints.
+#![tactic(auto)]
+
+mod constraint;
+mod item;
+mod qualifiers;
+mod shape;
+#[cfg(test)]
+mod tests;
+mod version;
+
+pub use constraint::{Constraint, ConstraintErr, read_constraint};
+pub use version::{Version, orders};

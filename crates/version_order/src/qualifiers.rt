@@ -1,0 +1,77 @@
+//! The words that have a class of their own.
+
+ghost use Rattle.std.specs.Prelude.{◌≡◌, IfOk, IfErr, IfSome};
+ghost use Rattle.version_order.specs.Ranks.{qualifiers as qualifier_rows};
+ghost use Rattle.case_table.specs.Rows.{value_at};
+ghost use Rattle.case_table.specs.declared.table.AddErr.TheVariants.{NoMemory as OutOfMemory};
+
+use case_table::{AddErr, Table};
+use interval_sets::NoMemory;
+use std::alloc::Global;
+use std::str;
+
+macro_rules! rows {
+    ($alloc:expr; $($name:literal => $value:expr),+ $(,)?) => {{
+        let mut table = Table::new($alloc);
+        $(table.add($alloc, $name, $value)?;)+
+        table
+    }};
+}
+
+fn qualifiers(alloc: Global) -> Result<Table<u8>, AddErr>
+    ensures value { IfOk result (λ table. table ≡ qualifier_rows) }
+    ensures sorted { IfErr result (λ e. e ≡ OutOfMemory) }
+{
+    Ok(rows! {
+        alloc;
+        "alpha" => 0,
+        "beta" => 1,
+        "cr" => 3,
+        "final" => 5,
+        "ga" => 5,
+        "milestone" => 2,
+        "rc" => 3,
+        "release" => 5,
+        "snapshot" => 4,
+        "sp" => 6,
+    })
+}
+
+fn made(alloc: Global) -> Result<Table<u8>, NoMemory>
+    ensures { IfOk result (λ table. table ≡ qualifier_rows) }
+{
+    match qualifiers(alloc) {
+        Ok(table) => Ok(table),
+        Err(AddErr::NoMemory) => Err(NoMemory),
+        Err(AddErr::NotSorted(_)) => unreachable!(),
+    }
+}
+
+fn find(table: &Table<u8>, word: &[u8]) -> Option<u8>
+    requires { table.now ≡ qualifier_rows }
+    ensures { result ≡ value_at word.now qualifier_rows }
+{
+    match str::from_utf8(word) {
+        Ok(word) => table.find(word).copied(),
+        Err(_) => None,
+    }
+}
+
+/// The class of a word in small letters. The table is made at the first word of a text.
+pub(crate) fn class_of(
+    alloc: Global,
+    table: &mut Option<Table<u8>>,
+    word: &[u8],
+) -> Result<Option<u8>, NoMemory>
+    requires { IfSome table.old (λ rows. rows ≡ qualifier_rows) }
+    ensures value { IfOk result (λ class. class ≡ value_at word.now qualifier_rows) }
+    ensures kept { IfSome table.new (λ rows. rows ≡ qualifier_rows) }
+{
+    if table.is_none() {
+        *table = Some(made(alloc)?);
+    }
+    match table {
+        Some(rows) => Ok(find(rows, word)),
+        None => unreachable!(),
+    }
+}
