@@ -8,7 +8,8 @@ use Rattle.std.proofs.lemmas.List.{append_assoc, append-nil}
 use Rattle.std.proofs.Math.Seq.{get_or-append_seam}
 use Rattle.std.proofs.lemmas.List.Folds.{list_all-append}
 use Rattle.std.proofs.lemmas.Slice.Eq.{bytes_eq-Decides}
-use Rattle.fault_place.specs.Reader.{goes_with, reads, IsRight}
+use Rattle.fault_place.specs.Reader.{goes_with, reads, IsRight, Accepts}
+use Rattle.fault_place.proofs.Readers.{at_start, spelled}
 use Rattle.interval_sets.specs.declared.interval.Interval.{Interval}
 use Rattle.version_order.specs.declared.constraint.Constraint.{Constraint}
 use Rattle.version_order.specs.declared.constraint.Constraint.TheVariants.{Any, Plain, Within}
@@ -251,3 +252,17 @@ lives (closed interval) front fits = ([], Within interval, refl)
 
 pub right : IsRight constraint_reader IsConstraint
 right = record { begins = refl; keeps = keeps; gives = gives; takes = takes; lives = lives }
+
+-- the relation and the reader agree
+pub read_is : (text : List ℕ) (value : Constraint) → reads constraint_reader text begin ≡ Some value → IsConstraint text value
+read_is text value e = spelled right text [] begin value (at_start right) e
+
+pub is_read : (text : List ℕ) (value : Constraint) → IsConstraint text value → reads constraint_reader text begin ≡ Some value
+is_read = takes
+
+pub not_read : (text : List ℕ) → (Accepts IsConstraint text → ⊥) → reads constraint_reader text begin ≡ None
+not_read text outside = by (reads constraint_reader text begin) refl
+  where
+    by : (read : Option Constraint) → reads constraint_reader text begin ≡ read → read ≡ None
+    by None e = refl
+    by (Some value) e = absurd (outside (value, spelled right text [] begin value (at_start right) e))

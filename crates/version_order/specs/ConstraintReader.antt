@@ -1,7 +1,8 @@
 -- The reader of constraints, byte by byte.
 use Rattle.std.specs.Prelude.{◌≡◌, ℕ, Bool, true, false, if◌then◌else◌, List, [], ◌∷◌, ◌++◌, Option, Some, None, ◌==◌, get_or, take}
 use Rattle.std.specs.List.{list_all}
-use Rattle.fault_place.specs.Reader.{Reader, At}
+use Rattle.fault_place.specs.Place.{IsPlace}
+use Rattle.fault_place.specs.Reader.{Reader, At, Accepts}
 use Rattle.interval_sets.specs.declared.interval.Interval.{Interval}
 use Rattle.version_order.specs.declared.constraint.Constraint.{Constraint}
 use Rattle.version_order.specs.declared.constraint.Constraint.TheVariants.{Any, Plain, Within}
@@ -91,3 +92,11 @@ pub record IsRead (side : Side) (bound : Option (List ℕ)) (text : List ℕ) (s
   pub state : State
   pub at : At constraint_reader state (take stop text)
   pub steps : step state (get_or text stop 0) ≡ ends side bound (get_or text stop 0)
+
+-- read behind `from`, whichever bound is to begin there
+abbrev pub IsReadFrom : ℕ → Option (List ℕ) → List ℕ → ℕ → Type 0
+IsReadFrom from bound text stop = (side : Side) → At constraint_reader (opened side) (take from text) → IsRead side bound text stop
+
+-- the place of a text in which a bound is to begin behind `from`
+abbrev pub IsPlaceFrom : ℕ → List ℕ → ℕ → Type 0
+IsPlaceFrom from text place = (side : Side) → At constraint_reader (opened side) (take from text) → IsPlace (Accepts IsConstraint) text place

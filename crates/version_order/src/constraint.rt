@@ -1,7 +1,8 @@
-ghost use Rattle.std.specs.Prelude.{◌≡◌, true, slice_range, IfOk, IfErr};
+ghost use Rattle.std.specs.Prelude.{◌≡◌, ◌↔◌, ℕ, List, Some, true, slice_range, IfOk, IfErr};
 ghost use Rattle.std.specs.List.{list_all};
 ghost use Rattle.version_order.specs.Constraints.{is_plain_byte, end_of as end_in, trimmed, IsConstraint};
-ghost use Rattle.version_order.specs.Refusals.{IsRefusal};
+ghost use Rattle.version_order.specs.Refusals.{IsRefusal, IsAnswer, constraint_in};
+ghost use Rattle.version_order.specs.declared.constraint.Constraint.{Constraint as Read};
 ghost use Rattle.version_order.specs.Shapes.{bound_in, IsSound, constraint_of, IsSoundShape};
 
 use super::shape::{Bound, Shape, shape_of, trim_end, trim_front};
@@ -100,10 +101,21 @@ fn build(alloc: Global, bytes: &[u8], shape: Shape) -> Result<Constraint, NoMemo
 pub fn read_constraint(alloc: Global, text: &str) -> Result<Constraint, ConstraintErr>
     ensures read { IfOk result (IsConstraint (trimmed text.now)) }
     ensures refused { IfErr result (IsRefusal (trimmed text.now)) }
+    ensures answer { IsAnswer (constraint_in text.now) result }
 {
     let bytes = trim_front(trim_end(text.as_bytes()));
     match shape_of(bytes) {
-        Ok(shape) => Ok(build(alloc, bytes, shape)?),
+        Ok(shape) => match build(alloc, bytes, shape) {
+            Ok(value) => Ok(value),
+            Err(NoMemory) => Err(ConstraintErr::NoMemory),
+        },
         Err(place) => Err(ConstraintErr::BadConstraint(place)),
     }
 }
+
+/// A law, with nothing to run: a text reads as at most one constraint, and `constraint_in` is a
+/// function that gives it.
+pub fn readings()
+    ensures { (text : List ℕ) (value : Read) →
+        (constraint_in text ≡ Some value) ↔ IsConstraint (trimmed text) value }
+{}

@@ -1,10 +1,10 @@
 //! The items of a text and how they stand against each other.
 
-ghost use Rattle.std.specs.Prelude.{◌≡◌, ◌<◌, ◌≤◌, ◌+◌, ◌-◌, ◌++◌, [], ◌∷◌, length, map, drop, get_or, slice_index, All, IfOk, OnOk, IfSome, if◌then◌else◌, ◌==◌, slice_range};
+ghost use Rattle.std.specs.Prelude.{◌≡◌, ◌<◌, ◌≤◌, ◌+◌, ◌-◌, ◌++◌, [], ◌∷◌, length, map, get_or, slice_index, All, IfOk, OnOk, IfSome, if◌then◌else◌, ◌==◌, slice_range};
 ghost use Rattle.version_order.specs.Items.{is_digit as digit_test, is_separator as separator_test, items};
 ghost use Rattle.version_order.specs.Ranks.{rank, rank_cmp, ranks_cmp, empty_rank, number_rank, without_zeros, number_class, qualifiers};
-ghost use Rattle.version_order.specs.Cutting.{breaks, items_from};
-ghost use Rattle.version_order.specs.Kept.{rank_at, IsWithin};
+ghost use Rattle.version_order.specs.Cutting.{breaks};
+ghost use Rattle.version_order.specs.Kept.{rank_at, ranks_with, IsWithin};
 
 use super::qualifiers::class_of;
 use case_table::Table;
@@ -119,7 +119,9 @@ fn push_item(
     requires ends { end ≤ length lowered.now }
     requires table { IfSome table.old (λ rows. rows ≡ qualifiers) }
     requires within { All (IsWithin lowered.now) made.old.items }
-    ensures value { OnOk result (map (rank_at lowered.now) made.new.items ≡ map (rank_at lowered.now) made.old.items ++ rank (slice_range lowered.now start end) ∷ []) }
+    ensures value { OnOk result (
+        map (rank_at lowered.now) made.new.items ≡
+        map (rank_at lowered.now) made.old.items ++ rank (slice_range lowered.now start end) ∷ []) }
     ensures within { OnOk result (All (IsWithin lowered.now) made.new.items) }
     ensures kept { IfSome table.new (λ rows. rows ≡ qualifiers) }
 {
@@ -150,7 +152,8 @@ fn pass(
     requires inside { i < length lowered.now }
     requires table { IfSome table.old (λ rows. rows ≡ qualifiers) }
     requires within { All (IsWithin lowered.now) made.old.items }
-    ensures value { IfOk result (λ next. map (rank_at lowered.now) made.new.items ++ map rank (items_from (slice_range lowered.now next (i + 1)) (drop (i + 1) lowered.now)) ≡ map (rank_at lowered.now) made.old.items ++ map rank (items_from (slice_range lowered.now start i) (drop i lowered.now))) }
+    ensures value { IfOk result (λ next.
+        ranks_with lowered.now made.new.items next (i + 1) ≡ ranks_with lowered.now made.old.items start i) }
     ensures begun { IfOk result (λ next. next ≤ i + 1) }
     ensures within { OnOk result (All (IsWithin lowered.now) made.new.items) }
     ensures kept { IfSome table.new (λ rows. rows ≡ qualifiers) }
@@ -220,7 +223,9 @@ fn item_at(items: &[Item], place: usize) -> Item
 pub(crate) fn cmp_at(xs: &[Item], left: &[u8], ys: &[Item], right: &[u8], place: usize) -> Ordering
     requires left_within { All (IsWithin left.now) xs.now }
     requires right_within { All (IsWithin right.now) ys.now }
-    ensures { result ≡ rank_cmp (get_or (map (rank_at left.now) xs.now) place empty_rank) (get_or (map (rank_at right.now) ys.now) place empty_rank) }
+    ensures { let a = get_or (map (rank_at left.now) xs.now) place empty_rank in
+        let b = get_or (map (rank_at right.now) ys.now) place empty_rank in
+        result ≡ rank_cmp a b }
 {
     cmp_item(&item_at(xs, place), left, &item_at(ys, place), right)
 }

@@ -9,5 +9,5 @@ mod shape;
 mod tests;
 mod version;
 
-pub use constraint::{Constraint, ConstraintErr, read_constraint};
+pub use constraint::{Constraint, ConstraintErr, read_constraint, readings};
 pub use version::{Version, orders};

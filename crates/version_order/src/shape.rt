@@ -5,7 +5,7 @@ ghost use Rattle.std.specs.List.{list_all};
 ghost use Rattle.fault_place.specs.Place.{IsPlace};
 ghost use Rattle.fault_place.specs.Reader.{At, Accepts};
 ghost use Rattle.version_order.specs.Constraints.{is_plain_byte as plain_test, is_blank as blank_test, is_white as white_test, cut_front, cut_end, last_byte, is_reserved as reserved_test, is_plain, only, interval_of, IsConstraint};
-ghost use Rattle.version_order.specs.ConstraintReader.{Side, first, second, opened, closed, constraint_reader, IsRead};
+ghost use Rattle.version_order.specs.ConstraintReader.{first, second, opened, closed, constraint_reader, IsReadFrom, IsPlaceFrom};
 ghost use Rattle.version_order.specs.Shapes.{bound_in, IsSound, constraint_of, IsSoundShape};
 
 /// A bound from `start` to `end`, which are equal where there is none, and the place of what
@@ -133,8 +133,8 @@ fn bound_behind(bytes: &[u8], from: usize, start: usize, end: usize) -> Result<B
     requires plain { list_all plain_test (slice_range bytes.now start end) ≡ true }
     requires other { end < length bytes.now → plain_test (slice_index bytes.now end) ≡ false }
     ensures sound { IfOk result (IsSound bytes.now) }
-    ensures read { IfOk result (λ bound. (side : Side) → At constraint_reader (opened side) (take from bytes.now) → IsRead side (bound_in bytes.now bound) bytes.now bound.stop) }
-    ensures refused { IfErr result (λ place. (side : Side) → At constraint_reader (opened side) (take from bytes.now) → IsPlace (Accepts IsConstraint) bytes.now place) }
+    ensures read { IfOk result (λ bound. IsReadFrom from (bound_in bytes.now bound) bytes.now bound.stop) }
+    ensures refused { IfErr result (IsPlaceFrom from bytes.now) }
 {
     let stop = blanks_end(bytes, end);
     if stop == bytes.len() {
@@ -151,8 +151,8 @@ fn no_bound(bytes: &[u8], from: usize, start: usize) -> Result<Bound, usize>
     requires no_blank { start < length bytes.now → blank_test (slice_index bytes.now start) ≡ false }
     requires other { start < length bytes.now → plain_test (slice_index bytes.now start) ≡ false }
     ensures sound { IfOk result (IsSound bytes.now) }
-    ensures read { IfOk result (λ bound. (side : Side) → At constraint_reader (opened side) (take from bytes.now) → IsRead side (bound_in bytes.now bound) bytes.now bound.stop) }
-    ensures refused { IfErr result (λ place. (side : Side) → At constraint_reader (opened side) (take from bytes.now) → IsPlace (Accepts IsConstraint) bytes.now place) }
+    ensures read { IfOk result (λ bound. IsReadFrom from (bound_in bytes.now bound) bytes.now bound.stop) }
+    ensures refused { IfErr result (IsPlaceFrom from bytes.now) }
 {
     if from < start {
         return Err(start);
@@ -171,8 +171,8 @@ fn no_bound(bytes: &[u8], from: usize, start: usize) -> Result<Bound, usize>
 fn bound_at(bytes: &[u8], from: usize) -> Result<Bound, usize>
     requires { from ≤ length bytes.now }
     ensures sound { IfOk result (IsSound bytes.now) }
-    ensures read { IfOk result (λ bound. (side : Side) → At constraint_reader (opened side) (take from bytes.now) → IsRead side (bound_in bytes.now bound) bytes.now bound.stop) }
-    ensures refused { IfErr result (λ place. (side : Side) → At constraint_reader (opened side) (take from bytes.now) → IsPlace (Accepts IsConstraint) bytes.now place) }
+    ensures read { IfOk result (λ bound. IsReadFrom from (bound_in bytes.now bound) bytes.now bound.stop) }
+    ensures refused { IfErr result (IsPlaceFrom from bytes.now) }
 {
     let start = blanks_end(bytes, from);
     let end = plain_end(bytes, start);
@@ -193,7 +193,8 @@ fn read_end(
 ) -> Result<Shape, usize>
     requires low { IsSound bytes.now low }
     requires high { IsSound bytes.now high }
-    requires closed { At constraint_reader (closed (interval_of square (bound_in bytes.now low) (bound_in bytes.now high) square_end)) (take (high.stop + 1) bytes.now) }
+    requires closed { let interval = interval_of square (bound_in bytes.now low) (bound_in bytes.now high) square_end in
+        At constraint_reader (closed interval) (take (high.stop + 1) bytes.now) }
     ensures sound { IfOk result (IsSoundShape bytes.now) }
     ensures read { IfOk result (λ shape. IsConstraint bytes.now (constraint_of bytes.now shape)) }
     ensures refused { IfErr result (IsPlace (Accepts IsConstraint) bytes.now) }
@@ -207,7 +208,8 @@ fn read_end(
 /// The second bound of an interval whose first one is read, and what stands behind it.
 fn read_second(bytes: &[u8], square: bool, low: Bound) -> Result<Shape, usize>
     requires sound { IsSound bytes.now low }
-    requires begun { At constraint_reader (opened (second square (bound_in bytes.now low))) (take (low.stop + 1) bytes.now) }
+    requires begun { let side = second square (bound_in bytes.now low) in
+        At constraint_reader (opened side) (take (low.stop + 1) bytes.now) }
     ensures sound { IfOk result (IsSoundShape bytes.now) }
     ensures read { IfOk result (λ shape. IsConstraint bytes.now (constraint_of bytes.now shape)) }
     ensures refused { IfErr result (IsPlace (Accepts IsConstraint) bytes.now) }
@@ -229,7 +231,8 @@ fn read_second(bytes: &[u8], square: bool, low: Bound) -> Result<Shape, usize>
 /// One bound between square brackets, behind which the text must end.
 fn read_single(bytes: &[u8], bound: Bound) -> Result<Shape, usize>
     requires sound { IsSound bytes.now bound }
-    requires closed { At constraint_reader (closed (only (slice_range bytes.now bound.start bound.end))) (take (bound.stop + 1) bytes.now) }
+    requires closed { let interval = only (slice_range bytes.now bound.start bound.end) in
+        At constraint_reader (closed interval) (take (bound.stop + 1) bytes.now) }
     ensures sound { IfOk result (IsSoundShape bytes.now) }
     ensures read { IfOk result (λ shape. IsConstraint bytes.now (constraint_of bytes.now shape)) }
     ensures refused { IfErr result (IsPlace (Accepts IsConstraint) bytes.now) }
