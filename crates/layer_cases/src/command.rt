@@ -1,0 +1,46 @@
+//! Which command answers a line.
+ghost use Rattle.std.specs.Prelude.{IfOk, string_bytes};
+ghost use Rattle.layer_cases.specs.Words.{IsOneLine};
+
+use crate::case_error::CaseError;
+use crate::coordinates;
+use crate::words::pieces_of;
+use std::alloc::{AllocError, Global};
+use std::str;
+
+fn answer_words(alloc: Global, words: &[&str]) -> Result<String, CaseError> {
+    let [command, fields @ ..] = words else {
+        return Err(CaseError::OutOfForm);
+    };
+    match *command {
+        "coord" => coordinates::coord(alloc, fields),
+        "plain" => coordinates::plain(alloc, fields),
+        "paths" => coordinates::paths(alloc, fields),
+        _ => Err(CaseError::OutOfForm),
+    }
+}
+
+fn answer_bytes(alloc: Global, line: &[u8]) -> Result<String, CaseError>
+    ensures { IfOk result (λ answer. IsOneLine (string_bytes answer)) }
+{
+    let Ok(line) = str::from_utf8(line) else {
+        return Err(CaseError::OutOfForm);
+    };
+    let words = pieces_of(alloc, line, ' ')?;
+    let answer = answer_words(alloc, words.as_slice())?;
+    if answer.as_bytes().contains(&b'\n') {
+        return Err(CaseError::OutOfForm);
+    }
+    Ok(answer)
+}
+
+/// The answer to a line, both without their line feeds.
+pub fn answer(alloc: Global, line: &[u8]) -> Result<String, AllocError>
+    ensures { IfOk result (λ answer. IsOneLine (string_bytes answer)) }
+{
+    match answer_bytes(alloc, line) {
+        Ok(answer) => Ok(answer),
+        Err(CaseError::OutOfForm) => String::from_str(alloc, "unknown"),
+        Err(CaseError::NoMemory) => Err(AllocError),
+    }
+}
