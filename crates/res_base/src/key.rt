@@ -142,6 +142,12 @@ impl Hash for FileKey {
     }
 }
 
+impl Copied for Role {
+    fn copy(&self, _alloc: Global) -> Result<Role, NoMemory> {
+        Ok(*self)
+    }
+}
+
 impl Copied for FileKey {
     fn copy(&self, alloc: Global) -> Result<FileKey, NoMemory> {
         Ok(FileKey {

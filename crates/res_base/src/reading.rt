@@ -115,6 +115,12 @@ impl Copied for Damage {
     }
 }
 
+impl Copied for Field {
+    fn copy(&self, _alloc: Global) -> Result<Field, NoMemory> {
+        Ok(*self)
+    }
+}
+
 impl Copied for ReadFault {
     fn copy(&self, _alloc: Global) -> Result<ReadFault, NoMemory> {
         Ok(*self)

@@ -3,7 +3,7 @@ ghost use Rattle.std.specs.Prelude.{◌≡◌, ◌∷◌, [], ◌++◌, OnOk, On
 ghost use Rattle.std.specs.Option.{option_copied};
 ghost use Rattle.res_base.specs.World.{at};
 
-use crate::{List, NoMemory, Text};
+use crate::{Copied, List, NoMemory, Text};
 use std::alloc::Global;
 
 /// A file of a world.
@@ -49,5 +49,22 @@ impl World {
             }
         }
         None
+    }
+}
+
+impl Copied for WorldRow {
+    fn copy(&self, alloc: Global) -> Result<WorldRow, NoMemory> {
+        Ok(WorldRow {
+            url: self.url.copy(alloc)?,
+            bytes: List::from_slice(alloc, self.bytes.as_slice())?,
+        })
+    }
+}
+
+impl Copied for World {
+    fn copy(&self, alloc: Global) -> Result<World, NoMemory> {
+        Ok(World {
+            rows: self.rows.copy(alloc)?,
+        })
     }
 }
