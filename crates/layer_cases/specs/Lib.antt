@@ -1,3 +1,5 @@
 pub mod Coordinates
+pub mod Digests
 pub mod HexWord
+pub mod Versions
 pub mod Words

@@ -23,6 +23,16 @@ impl From<NoMemory> for CaseError {
     }
 }
 
+impl From<interval_sets::NoMemory> for CaseError {
+    ghost use Rattle.layer_cases.specs.declared.case_error.CaseError.TheVariants.{NoMemory as OutOfMemory};
+
+    ghost from_gives = { λ _ e. e ≡ OutOfMemory };
+
+    fn from(_: interval_sets::NoMemory) -> CaseError {
+        CaseError::NoMemory
+    }
+}
+
 impl From<AllocError> for CaseError {
     ghost use Rattle.layer_cases.specs.declared.case_error.CaseError.TheVariants.{NoMemory as OutOfMemory};
 

@@ -3,8 +3,8 @@ ghost use Rattle.std.specs.Prelude.{IfOk, string_bytes};
 ghost use Rattle.layer_cases.specs.Words.{IsOneLine};
 
 use crate::case_error::CaseError;
-use crate::coordinates;
 use crate::words::pieces_of;
+use crate::{coordinates, digests, intervals, versions};
 use std::alloc::{AllocError, Global};
 use std::str;
 
@@ -16,6 +16,12 @@ fn answer_words(alloc: Global, words: &[&str]) -> Result<String, CaseError> {
         "coord" => coordinates::coord(alloc, fields),
         "plain" => coordinates::plain(alloc, fields),
         "paths" => coordinates::paths(alloc, fields),
+        "digest" => digests::digest(alloc, fields),
+        "sums" => digests::sums(alloc, fields),
+        "version" => versions::version(alloc, fields),
+        "constraint" => versions::constraint(alloc, fields),
+        "meet" => intervals::meet(alloc, fields),
+        "holds" => intervals::holds(alloc, fields),
         _ => Err(CaseError::OutOfForm),
     }
 }

@@ -11,9 +11,12 @@
 mod case_error;
 mod command;
 mod coordinates;
+mod digests;
 mod hex_word;
+mod intervals;
 mod lines;
 mod serve;
+mod versions;
 mod words;
 
 use std::io;

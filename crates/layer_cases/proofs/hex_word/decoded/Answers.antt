@@ -1,5 +1,4 @@
 use Rattle.std.proofs.Common.{◌≡◌, ◌∙◌, codes, true, false, sym, inl, inr, Ok, Err}
-use Rattle.hex.specs.Hex.{decode_of}
 use Rattle.hex.proofs.HexLemmas.{decode_of-same}
 use Rattle.layer_cases.proofs.HexWords.{dash-Decides, decode_of-hex_word, hex_word-dash, only_from}
 use Rattle.layer_cases.proofs.hex_word.decoded.Goals as goal
