@@ -1,4 +1,4 @@
-use Rattle.std.proofs.Common.{◌≡◌, Some, None, refl, sym, ◌∙◌, ap}
+use Rattle.std.proofs.Common.{◌≡◌, Some, refl, sym, ◌∙◌, ap}
 use Rattle.fault_place.specs.Reader.{reads}
 use Rattle.version_order.specs.Constraints.{cut_front, cut_end}
 use Rattle.version_order.specs.ConstraintReader.{constraint_reader, begin}
