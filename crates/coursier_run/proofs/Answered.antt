@@ -1,5 +1,5 @@
 -- What a link has at the root's URL, and what is to be said of it.
-use Rattle.std.proofs.Common.{◌≡◌, ◌≤◌, ◌⊎◌, ℕ, Bool, true, false, List, Option, Some, None, length, nat_le, refl, ap, sym, ◌∙◌, inl, inr, arith, if◌then◌else◌}
+use Rattle.std.proofs.Common.{◌≡◌, ◌≤◌, ◌⊎◌, ℕ, Bool, true, false, List, Option, Some, None, length, nat_le, ap, sym, ◌∙◌, inl, inr, arith, if◌then◌else◌}
 use Rattle.res_base.specs.Plain.{is_plain_coord}
 use Rattle.res_base.specs.World.{at}
 use Rattle.link_base.specs.Links.{Rows, got_of}
@@ -9,7 +9,7 @@ use Rattle.plain_pom.specs.LonePom.{greatest_length}
 use Rattle.coursier_run.specs.declared.said.Said.{Said}
 use Rattle.coursier_run.specs.declared.words.Job.{Job}
 use Rattle.coursier_run.specs.declared.words.Words.TheVariants.{Asks}
-use Rattle.coursier_run.specs.Answers.{root_url, found_said, not_built_said, HasLonePom, IsAnswer, found, not_built, IsSaidOfGot, got_lone, got_other, IsJustified, answers}
+use Rattle.coursier_run.specs.Answers.{root_url, found_said, not_built_said, IsAnswer, found, not_built, IsSaidOfGot, got_lone, got_other, IsJustified, answers}
 use Rattle.coursier_run.specs.Words.{words_of}
 
 abbrev bytes_or : List ℕ → Got → List ℕ

@@ -1,5 +1,5 @@
 -- Texts cut at their first colon.
-use Rattle.std.proofs.Common.{◌≡◌, ◌++◌, ◌∷◌, [], ◌<◌, ◌+◌, ◌==◌, ◌&&◌, ℕ, List, Bool, true, false, not, Option, Some, None, position, length, get_or, take, drop, refl, ap, sym, ◌∙◌, arith, cond, suc, add-one, drop-cons, length-append, subst, unwrap_or}
+use Rattle.std.proofs.Common.{◌≡◌, ◌++◌, ◌∷◌, [], ◌<◌, ◌+◌, ◌==◌, ℕ, List, Bool, true, not, Option, Some, None, position, length, get_or, take, drop, refl, ap, sym, ◌∙◌, arith, cond, add-one, drop-cons, length-append, subst, unwrap_or}
 use Rattle.std.specs.List.{list_all, position_or_len}
 use Rattle.std.specs.Option.{option_map}
 use Rattle.std.proofs.Math.Seq.{take-append_seam, drop-append-add}

@@ -1,5 +1,5 @@
 -- From the first link to all of them, and from what holds of less to what holds of more.
-use Rattle.std.proofs.Common.{◌≡◌, ◌⊎◌, ◌≤◌, ◌<◌, ◌+◌, ℕ, List, [], ◌∷◌, Option, get_or, inl, inr, arith, length, drop, All, Any, sum_by, slice_set, subst, ap, sym, refl, ⊎_elim}
+use Rattle.std.proofs.Common.{◌≡◌, ◌⊎◌, ◌≤◌, ◌<◌, ℕ, List, [], ◌∷◌, get_or, inl, inr, arith, length, drop, All, slice_set, subst, ap, sym, refl, ⊎_elim, unwrap_or}
 use Rattle.std.proofs.lemmas.List.Sums.{sum_by-cons}
 use Rattle.std.specs.List.{AllZip}
 use Rattle.link_base.proofs.Zipped.{zip_refl}
@@ -7,17 +7,24 @@ use Rattle.link_base.specs.Causes.{Rose, count_end}
 use Rattle.link_base.specs.Links.{Rows}
 use Rattle.coursier_run.specs.declared.said.Said.{Said}
 use Rattle.coursier_run.specs.Outcomes.{IsCut, IsSaid, whole, cut_out, cut_err, Ends, says, no_memory, Streams}
-use Rattle.coursier_run.specs.Answers.{IsJustified, refused, not_built_words, answers, link_failed, RoseTogether}
+use Rattle.coursier_run.specs.Answers.{IsJustified, refused, not_built_words, answers, link_failed, FirstRose, RoseTogether}
 
 rose_cases : (a b : ℕ) → Rose a b → (a < b) ⊎ (count_end ≤ b)
 rose_cases a b rose = grind arith
 
--- the first count rose, so the counts together did
-pub rose_first : {L : Type 0} (f : L → ℕ) (xs : List L) (x y : L) → 0 < length xs → x ≡ get_or xs 0 x → Rose (f x) (f y) → RoseTogether f xs (slice_set xs 0 y)
+-- the first link's count rose
+pub rose_first : {L : Type 0} (f : L → ℕ) (xs : List L) (x y : L) → 0 < length xs → x ≡ get_or xs 0 x → Rose (f x) (f y) → FirstRose f xs (slice_set xs 0 y)
 rose_first f [] x y some is rose = absurd (omega arith)
-rose_first f (z ∷ zs) x y some is rose =
-    let here : f z ≡ f x = ap f (sym is) in
-    ⊎_elim (λ less. inl (omega (arith, sum_by-cons f z zs, sum_by-cons f y zs))) (λ end. inr (0, y, omega arith, refl, end)) (rose_cases (f x) (f y) rose)
+rose_first f (z ∷ zs) x y some is rose = record { before = z; now = y; was_first = refl; is_first = refl; rose = subst (λ v. Rose (f v) (f y)) is rose }
+
+-- the first count rose, so the counts together did where the others stayed
+pub together : {L : Type 0} (f : L → ℕ) (xs : List L) (y : L) → FirstRose f xs (slice_set xs 0 y) → RoseTogether f xs (slice_set xs 0 y)
+together f [] y first = absurd cc
+together f (z ∷ zs) y first =
+    let old : z ≡ first.before = ap (λ o. unwrap_or o z) first.was_first in
+    let new : y ≡ first.now = ap (λ o. unwrap_or o y) first.is_first in
+    let rose : Rose (f z) (f y) = rw (old, new) first.rose in
+    ⊎_elim (λ less. inl (omega (arith, sum_by-cons f z zs, sum_by-cons f y zs))) (λ end. inr (0, y, omega arith, refl, end)) (rose_cases (f z) (f y) rose)
 
 pub all_first : {L : Type 0} (P : L → Type 0) (xs : List L) (x : L) → 0 < length xs → x ≡ get_or xs 0 x → All P xs → P x
 all_first P xs x some is all = subst P (sym is) (all 0 x some)

@@ -1,5 +1,5 @@
 -- Lists of four words, and others.
-use Rattle.std.proofs.Common.{◌≡◌, ◌≢◌, ℕ, List, [], ◌∷◌, length, map, refl, arith}
+use Rattle.std.proofs.Common.{◌≡◌, ◌≢◌, ℕ, List, [], ◌∷◌, length, map, refl}
 use Rattle.coursier_run.specs.declared.words.Words.TheVariants.{NotBuilt}
 use Rattle.coursier_run.specs.Words.{words_of_command}
 

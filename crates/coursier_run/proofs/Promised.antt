@@ -1,14 +1,14 @@
 -- What follows from how a call ends.
-use Rattle.std.proofs.Common.{◌≡◌, ◌⊎◌, ℕ, List, [], ◌∷◌, Option, inl, inr, ⊎_elim, arith, sym, ◌∙◌, ap, subst, refl, codes}
+use Rattle.std.proofs.Common.{◌≡◌, ◌⊎◌, ℕ, List, [], inl, inr, ⊎_elim, arith, sym, ◌∙◌, ap, subst, refl}
 use Rattle.link_base.specs.Links.{Rows}
 use Rattle.coursier_run.specs.declared.said.Said.{Said}
-use Rattle.coursier_run.specs.declared.said.Said.TheVariants.{Prints, Tells}
+use Rattle.coursier_run.specs.declared.said.Said.TheVariants.{Tells}
 use Rattle.coursier_run.specs.declared.words.Job.{Job}
 use Rattle.coursier_run.specs.declared.words.WordKind.{WordKind}
 use Rattle.coursier_run.specs.declared.words.Words.{Words}
 use Rattle.coursier_run.specs.declared.words.Words.TheVariants.{Asks, BadWords, NotBuilt}
 use Rattle.coursier_run.specs.Said.{status_of, err_of}
-use Rattle.coursier_run.specs.Lines.{words_line, not_built_line, memory_line}
+use Rattle.coursier_run.specs.Lines.{words_line, memory_line}
 use Rattle.coursier_run.specs.Outcomes.{Streams, IsTold, IsCut, IsCutErr, IsForOut, IsSaid, whole, cut_out, cut_err, Ends, says, no_memory}
 use Rattle.coursier_run.specs.Words.{words_of}
 use Rattle.coursier_run.specs.Answers.{found_said, not_built_said, HasLonePom, IsAnswer, found, not_built, IsJustified, refused, not_built_words, answers, link_failed}

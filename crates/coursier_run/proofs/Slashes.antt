@@ -1,6 +1,5 @@
 -- Slashes at the end of a text.
-use Rattle.std.proofs.Common.{◌≡◌, ◌≢◌, ◌++◌, ◌∷◌, [], ℕ, List, Bool, true, false, refl, ap, sym, ◌∙◌, ◌==◌, Option, Some, None, MatchOption, arith}
-use Rattle.link_base.specs.FilePaths.{is_slash}
+use Rattle.std.proofs.Common.{◌≡◌, ◌≢◌, ◌++◌, ◌∷◌, [], ℕ, List, refl, ap, arith}
 use Rattle.coursier_run.specs.Addresses.{before_end, without_slashes}
 
 -- one slash more changes nothing

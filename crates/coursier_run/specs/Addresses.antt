@@ -1,5 +1,5 @@
 -- The addresses of repositories: `http://HOST`, with `:PORT` and a path where wanted, or `file:` and the path of a folder.
-use Rattle.std.specs.Prelude.{ℕ, Bool, true, false, List, [], ◌∷◌, Option, Some, None, length, drop, take, codes, nat_eq, nat_le, nat_lt, fold, ◌==◌, ◌&&◌, ◌||◌, ◌+◌, ◌*◌, ◌-◌, not, if◌then◌else◌}
+use Rattle.std.specs.Prelude.{ℕ, Bool, false, List, [], ◌∷◌, Option, Some, None, length, drop, codes, nat_eq, nat_le, fold, ◌==◌, ◌&&◌, ◌||◌, ◌+◌, ◌*◌, ◌-◌, not, if◌then◌else◌}
 use Rattle.std.specs.List.{list_all, starts_with}
 use Rattle.res_base.specs.Plain.{is_at_most_two_dots}
 use Rattle.link_base.specs.FilePaths.{is_slash, is_file_path}

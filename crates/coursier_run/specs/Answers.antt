@@ -1,9 +1,9 @@
 -- What is to be said, and why.
-use Rattle.std.specs.Prelude.{ℕ, ◌≡◌, ◌⊎◌, ◌<◌, ◌≤◌, List, [], ◌∷◌, Option, Some, None, IsTrue, Any, sum_by, codes}
+use Rattle.std.specs.Prelude.{ℕ, ◌≡◌, ◌⊎◌, ◌<◌, ◌≤◌, List, [], ◌∷◌, Some, IsTrue, Any, sum_by, slice_get, codes}
 use Rattle.res_base.specs.Plain.{is_plain_coord}
 use Rattle.res_base.specs.Paths.{pom_path_of}
 use Rattle.res_base.specs.World.{at}
-use Rattle.link_base.specs.Causes.{count_end}
+use Rattle.link_base.specs.Causes.{Rose, count_end}
 use Rattle.link_base.specs.Links.{Rows, url_of}
 use Rattle.link_base.specs.declared.links.Got.{Got}
 use Rattle.link_base.specs.declared.links.Got.TheVariants.{Bytes}
@@ -55,6 +55,14 @@ pub data IsJustified (Agree : Rows → Type 0) (links_rose : Type 0) (words : Li
   answers : (job : Job) → words_of words ≡ Asks job → (said ≡ found_said job) ⊎ (said ≡ not_built_said job) → ((w : Rows) → Agree w → IsAnswer w job said) → IsJustified Agree links_rose words said
   -- a link failed at the root's project file
   link_failed : (job : Job) → words_of words ≡ Asks job → IsTrue (is_plain_coord job.root) → said ≡ Tells 3 (repository_line (root_url job)) → links_rose → IsJustified Agree links_rose words said
+
+-- the count of the first link rose, or stands at its greatest value
+pub record FirstRose {L : Type 0} (faults : L → ℕ) (old new : List L) : Type 0 where
+  pub before : L
+  pub now : L
+  pub was_first : slice_get old 0 ≡ Some before
+  pub is_first : slice_get new 0 ≡ Some now
+  pub rose : Rose (faults before) (faults now)
 
 -- the counts together rose, or one stands at its greatest value
 abbrev pub RoseTogether : {L : Type 0} → (L → ℕ) → List L → List L → Type 0

@@ -1,5 +1,5 @@
 -- The coordinate that a text spells, as a function of the text.
-use Rattle.std.specs.Prelude.{ℕ, Bool, ◌&&◌, List, Option, Some, None, if◌then◌else◌}
+use Rattle.std.specs.Prelude.{ℕ, ◌&&◌, List, Option, Some, None, if◌then◌else◌}
 use Rattle.res_base.specs.Plain.{is_plain_org, is_plain_name}
 use Rattle.res_base.specs.CoordText.{is_constraint_text}
 use Rattle.res_base.specs.declared.coord.Coord.{Coord}

@@ -1,11 +1,9 @@
 -- What the words of a command ask for. So far one command is built: `resolve --repositories ADDRESS COORD`.
-use Rattle.std.specs.Prelude.{ℕ, Bool, true, false, List, [], ◌∷◌, Option, Some, None, if◌then◌else◌, ◌&&◌, ◌||◌, ◌==◌, not, length, nat_le, nat_eq, codes}
+use Rattle.std.specs.Prelude.{ℕ, Bool, false, List, [], ◌∷◌, Option, Some, None, if◌then◌else◌, ◌&&◌, ◌||◌, ◌==◌, not, length, nat_le, nat_eq, codes}
 use Rattle.std.specs.List.{list_all, list_any, ends_with}
 use Rattle.res_base.specs.Names.{text_eq}
 use Rattle.res_base.specs.Plain.{is_plain_byte}
 use Rattle.res_base.specs.declared.coord.Coord.{Coord}
-use Rattle.coursier_run.specs.declared.words.Job.{Job}
-use Rattle.coursier_run.specs.declared.words.WordKind.{WordKind}
 use Rattle.coursier_run.specs.declared.words.WordKind.TheVariants.{NoCommand, TooMany, UnknownCommand, Repositories, Roots}
 use Rattle.coursier_run.specs.declared.words.Words.{Words}
 use Rattle.coursier_run.specs.declared.words.Words.TheVariants.{Asks, BadWords, NotBuilt}

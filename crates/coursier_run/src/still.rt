@@ -9,7 +9,7 @@ ghost use Rattle.coursier_run.specs.declared.words.Words.TheVariants.{Asks, BadW
 ghost use Rattle.coursier_run.specs.Lines.{words_line, not_built_line};
 ghost use Rattle.coursier_run.specs.Words.{words_of};
 ghost use Rattle.coursier_run.specs.Outcomes.{Ends, streams, on_err};
-ghost use Rattle.coursier_run.specs.Answers.{IsJustified, RoseTogether};
+ghost use Rattle.coursier_run.specs.Answers.{IsJustified, FirstRose, RoseTogether};
 ghost use Rattle.coursier_run.specs.Promises.{IsStatus, PrintsRoot, RefusesWords, BlamesLink, LeavesWords, LeavesRoot, AnswersRefusal, IsComplete};
 
 use crate::answer::{answer, words_text};
@@ -98,7 +98,7 @@ pub fn run_still<R: Threads + Sync, L: Link + Send, D, C: Clock, O: Sink>(
     requires { 0 < vec_len links.old }
 
     // How the call ended: what was said, why, and how much of it went out.
-    ensures ends { Ends (IsJustified (λ w. All (λ l. L.agrees l w) links.old.items) (RoseTogether L.faults links.old.items links.new.items) (map string_bytes words.now))
+    ensures ends { Ends (IsJustified (λ w. All (λ l. L.agrees l w) links.old.items) (FirstRose L.faults links.old.items links.new.items) (map string_bytes words.now))
         (streams O.written out.old out.new err.old err.new)
         (Rose (O.faults out.old) (O.faults out.new)) (Rose (O.faults err.old) (O.faults err.new)) result.status }
 
@@ -106,7 +106,7 @@ pub fn run_still<R: Threads + Sync, L: Link + Send, D, C: Clock, O: Sink>(
     ensures statuses { IsStatus result.status }
     ensures printed { result.status ≡ 0 → PrintsRoot (λ w. All (λ l. L.agrees l w) links.old.items) (map string_bytes words.now) (streams O.written out.old out.new err.old err.new) }
     ensures refused { result.status ≡ 2 → RefusesWords (map string_bytes words.now) (streams O.written out.old out.new err.old err.new) }
-    ensures blamed { result.status ≡ 3 → BlamesLink (RoseTogether L.faults links.old.items links.new.items) (map string_bytes words.now) (streams O.written out.old out.new err.old err.new) }
+    ensures blamed { result.status ≡ 3 → BlamesLink (FirstRose L.faults links.old.items links.new.items) (map string_bytes words.now) (streams O.written out.old out.new err.old err.new) }
     ensures stream_failed { result.status ≡ 6 → Rose (O.faults out.old) (O.faults out.new) ⊎ Rose (O.faults err.old) (O.faults err.new) }
     ensures left { result.status ≡ 9 → LeavesWords (map string_bytes words.now) (streams O.written out.old out.new err.old err.new)
         ⊎ LeavesRoot (λ w. All (λ l. L.agrees l w) links.old.items) (map string_bytes words.now) (streams O.written out.old out.new err.old err.new) }

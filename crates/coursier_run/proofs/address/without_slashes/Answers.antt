@@ -1,4 +1,4 @@
-use Rattle.std.proofs.Common.{◌≡◌, ◌++◌, ◌∷◌, [], Some, None, ap, sym, ◌∙◌, lit<, rules}
+use Rattle.std.proofs.Common.{Some, None, ap, sym, ◌∙◌, lit<, rules}
 use Rattle.std.proofs.lemmas.Str.Pattern.{strip_suffix_char}
 use Rattle.coursier_run.specs.Addresses.{without_slashes}
 use Rattle.coursier_run.proofs.Slashes.{one_more, none_more}

@@ -1,4 +1,4 @@
-use Rattle.std.proofs.Common.{◌≡◌, append_assoc}
+use Rattle.std.proofs.Common.{append_assoc}
 use Rattle.coursier_run.proofs.answer.not_built_text.Goals as goal
 
 pub returns : goal.returns

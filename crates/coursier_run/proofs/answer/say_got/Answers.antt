@@ -1,4 +1,3 @@
-use Rattle.std.proofs.Common.{◌≡◌}
 use Rattle.std.proofs.lemmas.Result.{IfOk-weaker}
 use Rattle.plain_pom.specs.LonePom.{IsLonePom}
 use Rattle.coursier_run.specs.Answers.{got_lone}

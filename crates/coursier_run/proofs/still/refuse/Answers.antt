@@ -1,4 +1,4 @@
-use Rattle.std.proofs.Common.{◌≡◌, ap, ◌∙◌, refl}
+use Rattle.std.proofs.Common.{ap, ◌∙◌}
 use Rattle.coursier_run.specs.declared.said.Said.TheVariants.{Tells}
 use Rattle.coursier_run.specs.Outcomes.{says}
 use Rattle.coursier_run.proofs.still.refuse.Goals as goal

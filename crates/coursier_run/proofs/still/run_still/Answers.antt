@@ -1,6 +1,6 @@
-use Rattle.std.proofs.Common.{◌≡◌, ◌<◌, length, refl, ap, arith}
+use Rattle.std.proofs.Common.{◌<◌, length, refl, arith}
 use Rattle.link_base.proofs.Kept.{kept_refl}
-use Rattle.coursier_run.proofs.FirstLink.{rose_first, all_first, zip_first, drop-set_first, set_first_same, justified_wider, ends_wider}
+use Rattle.coursier_run.proofs.FirstLink.{rose_first, together, all_first, zip_first, drop-set_first, set_first_same, justified_wider, ends_wider}
 use Rattle.coursier_run.proofs.Promised.{has_status, prints_root, refuses_words, blames_link, leaves, stream_rose, answers_refusal, is_complete}
 use Rattle.coursier_run.proofs.still.run_still.Goals as goal
 
@@ -45,7 +45,7 @@ returns-clause-untouched g c = λ kind place bad.
     (set_first_same _ c.index_mut.result.now _ some c.index_mut.ensures.value same.0, same.1, refl)
 
 pub returns-clause-complete : goal.returns-clause-complete
-returns-clause-complete g c = λ links_calm out_calm err_calm. is_complete _ _ _ _ _ _ _ links_calm out_calm err_calm (returns-clause-ends g c)
+returns-clause-complete g c = λ links_calm out_calm err_calm. is_complete _ _ _ _ _ _ _ (λ first. links_calm (together g.L.Link.faults c.args.links.now.items c.run_words_over-status.new.link first)) out_calm err_calm (returns-clause-ends g c)
 
 pub returns-clause-kept : goal.returns-clause-kept
 returns-clause-kept g c =

@@ -1,6 +1,4 @@
-use Rattle.std.proofs.Common.{◌≡◌, sym, ◌∙◌, map, string_bytes}
-use Rattle.coursier_run.specs.declared.words.Words.TheVariants.{Asks, BadWords, NotBuilt}
-use Rattle.coursier_run.specs.Words.{words_of}
+use Rattle.std.proofs.Common.{sym, ◌∙◌}
 use Rattle.coursier_run.specs.Answers.{refused, not_built_words}
 use Rattle.coursier_run.proofs.FirstLink.{ends_wider}
 use Rattle.coursier_run.proofs.still.run_words_over.Goals as goal

@@ -1,4 +1,3 @@
-use Rattle.std.proofs.Common.{◌≡◌}
 use Rattle.coursier_run.proofs.FourWords.{not_four}
 use Rattle.coursier_run.proofs.words.read_command.Goals as goal
 

@@ -1,4 +1,4 @@
-use Rattle.std.proofs.Common.{◌≡◌, sym, ap, Err}
+use Rattle.std.proofs.Common.{sym, ap, Err}
 use Rattle.coursier_run.proofs.Coordinates.{coord_of-spelled, coord_of-refused}
 use Rattle.coursier_run.proofs.words.read_root.Goals as goal
 
