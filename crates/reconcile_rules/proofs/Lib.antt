@@ -1,0 +1,6 @@
+mod Ends
+mod Pairs
+mod KeptLemmas
+mod Loops
+mod Cases
+mod Listing
