@@ -11,6 +11,8 @@ mod memory_link;
 mod memory_sink;
 mod pieces;
 mod sinks;
+#[cfg(test)]
+mod tests;
 mod world_files;
 
 pub use clocks::Clock;

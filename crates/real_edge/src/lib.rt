@@ -7,6 +7,8 @@ mod pieces;
 mod real_clock;
 mod real_link;
 mod real_sink;
+#[cfg(test)]
+mod tests;
 
 pub use real_clock::RealClock;
 pub use real_link::RealLink;
