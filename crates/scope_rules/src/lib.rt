@@ -1,0 +1,8 @@
+//! Which dependencies a configuration keeps, by their scopes.
+#![tactic(auto)]
+
+mod scopes;
+#[cfg(test)]
+mod tests;
+
+pub use scopes::{Configuration, kept};
