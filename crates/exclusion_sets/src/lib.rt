@@ -1,0 +1,12 @@
+//! Sets of exclusions, and collections of them of which none makes another one needless.
+#![tactic(auto)]
+
+mod antichain;
+mod excl_set;
+mod laws;
+#[cfg(test)]
+mod tests;
+
+pub use antichain::{Added, Antichain};
+pub use excl_set::ExclSet;
+pub use laws::{join_laws, kept_laws, within_laws};
