@@ -1,0 +1,5 @@
+pub mod KnownPairs
+pub mod Listings
+pub mod Looks
+pub mod Refusals
+pub mod Rows
