@@ -84,7 +84,14 @@ fn main(rt: HostRuntime) -> ExitCode {
     let mut clock = RealClock::new(rt);
     let words = words.as_slice();
     let served = run_still(
-        &rt, alloc, words, &mut links, (), &mut clock, &mut out, &mut err,
+        &rt,
+        alloc,
+        words,
+        &mut links,
+        (),
+        &mut clock,
+        &mut out,
+        &mut err,
     );
     ExitCode::from(served.status)
 }
