@@ -1,0 +1,10 @@
+pub mod Characters
+pub mod Encodings
+pub mod References
+pub mod Document
+pub mod Rows
+pub mod Machine
+pub mod Declarations
+pub mod Heads
+pub mod Faults
+pub mod Verdicts

@@ -1,0 +1,90 @@
+-- Characters that are written as references.
+use Rattle.std.specs.Prelude.{ℕ, zero, suc, ◌+◌, ◌-◌, ◌*◌, Bool, true, false, cond, not, ◌&&◌, List, [], ◌∷◌, ◌++◌, Option, Some, None, nat_lt, ◌==◌, codes, encode_utf8}
+use Rattle.pom_grammar.specs.declared.encoding.Encoding.{Encoding}
+use Rattle.pom_grammar.specs.Characters.{in_range, begins_with}
+use Rattle.pom_grammar.specs.Encodings.{utf8_of}
+
+-- a reference behind its `&`: how many bytes it has there, and its character
+pub data Meaning : Type 0 where
+  none : Meaning
+  means : ℕ → ℕ → Meaning
+
+abbrev pub or_else : Meaning → Meaning → Meaning
+or_else none other = other
+or_else (means len char) other = means len char
+
+abbrev pub if_begins : List ℕ → ℕ → ℕ → List ℕ → Meaning
+if_begins name len char text = cond (begins_with name text) (means len char) none
+
+-- the five named entities
+abbrev pub named : List ℕ → Meaning
+named text =
+    or_else (if_begins (codes "lt;") 3 60 text)
+    (or_else (if_begins (codes "gt;") 3 62 text)
+    (or_else (if_begins (codes "amp;") 4 38 text)
+    (or_else (if_begins (codes "quot;") 5 34 text) (if_begins (codes "apos;") 5 39 text))))
+
+-- a Unicode scalar value above 0
+abbrev pub is_character : ℕ → Bool
+is_character n = nat_lt 0 n && (nat_lt n 1114112 && not (in_range 55296 57343 n))
+
+abbrev pub digit_of : Bool → ℕ → Option ℕ
+digit_of hex c =
+    cond (in_range 48 57 c) (Some (c - 48))
+    (cond (hex && in_range 97 102 c) (Some (c - 87)) (cond (hex && in_range 65 70 c) (Some (c - 55)) None))
+
+abbrev pub base_of : Bool → ℕ
+base_of true = 16
+base_of false = 10
+
+-- behind so many bytes, the last of them digits of this value: what ends the number
+abbrev pub number_end : Bool → ℕ → ℕ → ℕ → Meaning
+number_end some len value c = cond (c == 59 && (some && is_character value)) (means (len + 1) value) none
+
+abbrev pub on_digit : Option ℕ → (ℕ → Meaning) → Meaning → Meaning
+on_digit None f other = other
+on_digit (Some digit) f other = f digit
+
+abbrev pub number_from : Bool → Bool → ℕ → ℕ → List ℕ → Meaning
+number_from hex some len value [] = none
+number_from hex some len value (c ∷ text) = on_digit (digit_of hex c) (λ digit. number_from hex true (len + 1) (value * base_of hex + digit) text) (number_end some len value c)
+
+abbrev pub hexadecimal : List ℕ → Meaning
+hexadecimal [] = none
+hexadecimal (c ∷ text) = cond (c == 120) (number_from true false 2 0 text) (number_from false false 1 0 (c ∷ text))
+
+abbrev pub numbered : List ℕ → Meaning
+numbered [] = none
+numbered (c ∷ text) = cond (c == 35) (hexadecimal text) none
+
+-- what a text means behind a `&`
+abbrev pub reference : List ℕ → Meaning
+reference text = or_else (named text) (numbered text)
+
+abbrev pub meaning_at : ℕ → List ℕ → Meaning
+meaning_at c text = cond (c == 38) (reference text) none
+
+-- A run of characters with its references put in: what the byte c stands for, where so many bytes
+-- are left of a reference and the text follows, and how many are left behind it.
+abbrev pub meant : Encoding → ℕ → Meaning → List ℕ
+meant e c none = utf8_of e (c ∷ [])
+meant e c (means len char) = encode_utf8 char
+
+abbrev pub piece : Encoding → ℕ → ℕ → List ℕ → List ℕ
+piece e zero c text = meant e c (meaning_at c text)
+piece e (suc left) c text = []
+
+abbrev pub length_of : Meaning → ℕ
+length_of none = 0
+length_of (means len char) = len
+
+abbrev pub left_behind : ℕ → ℕ → List ℕ → ℕ
+left_behind zero c text = length_of (meaning_at c text)
+left_behind (suc left) c text = left
+
+abbrev pub expanded_from : Encoding → ℕ → List ℕ → List ℕ
+expanded_from e left [] = []
+expanded_from e left (c ∷ text) = piece e left c text ++ expanded_from e (left_behind left c text) text
+
+abbrev pub expanded : Encoding → List ℕ → List ℕ
+expanded e run = expanded_from e 0 run

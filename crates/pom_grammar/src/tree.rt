@@ -1,0 +1,38 @@
+ghost use Rattle.std.specs.Prelude.{◌≡◌};
+
+use res_base::{List, NoMemory, Text};
+
+/// An element: its local name, its own text, and the elements in it.
+///
+/// The name is what stands behind the first colon, or the whole where there is none. The text has
+/// its references and CDATA sections put in, and no white space at its ends.
+#[derive(Drop)]
+pub struct Tree {
+    pub name: Text,
+    pub text: Text,
+    pub children: List<Tree>,
+}
+
+/// Why a text is no document. Places are bytes from the start of the input.
+#[derive(Debug, Drop)]
+pub enum TextErr {
+    /// The longest front of the input that begins some document has this length.
+    BadText(u64),
+    /// A `<!DOCTYPE` stands before the root, at this place.
+    Doctype(u64),
+    /// A start tag opens the 65th level, at this place.
+    TooDeep(u64),
+    /// The declaration names an encoding that is not known, at this place.
+    UnknownEncoding(u64),
+    NoMemory,
+}
+
+impl From<NoMemory> for TextErr {
+    ghost use Rattle.pom_grammar.specs.declared.tree.TextErr.TheVariants.{NoMemory as OutOfMemory};
+
+    ghost from_gives = { λ _ e. e ≡ OutOfMemory };
+
+    fn from(_: NoMemory) -> TextErr {
+        TextErr::NoMemory
+    }
+}
