@@ -1,0 +1,6 @@
+pub mod Runs
+pub mod MarkRuns
+pub mod TextFacts
+pub mod TagFacts
+pub mod MarkupFacts
+pub mod DeclaredFacts

@@ -1,0 +1,4 @@
+pub mod Scans
+pub mod Texts
+pub mod Views
+pub mod DeclarationViews

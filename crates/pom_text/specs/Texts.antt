@@ -1,0 +1,18 @@
+-- References as the code finds them.
+use Rattle.std.specs.Prelude.{ℕ, ◌+◌, Bool, cond, not, List, Option, Some, None, ◌==◌}
+use Rattle.pom_text.specs.declared.references.Found.{Found}
+use Rattle.pom_grammar.specs.References.{Meaning, none, means, is_character}
+use Rattle.pom_grammar.specs.Characters.{every}
+
+abbrev pub meaning_of : Option Found → Meaning
+meaning_of None = none
+meaning_of (Some found) = means found.len found.char
+
+abbrev pub is_no_ampersand : ℕ → Bool
+is_no_ampersand c = not (c == 38)
+
+abbrev pub has_no_ampersand : List ℕ → Bool
+has_no_ampersand text = every is_no_ampersand text
+
+abbrev pub number_meaning : ℕ → ℕ → Meaning
+number_meaning value len = cond (is_character value) (means (len + 1) value) none
