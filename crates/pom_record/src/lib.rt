@@ -1,0 +1,15 @@
+//! The fields of project files, after the Maven POM reference.
+#![tactic(auto)]
+
+mod dependencies;
+mod fields;
+mod names;
+mod pom_err;
+mod project;
+mod properties;
+mod read;
+#[cfg(test)]
+mod tests;
+
+pub use pom_err::PomErr;
+pub use read::read_pom;
