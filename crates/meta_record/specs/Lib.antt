@@ -1,0 +1,5 @@
+pub mod Answered
+pub mod Answers
+pub mod Names
+pub mod Refused
+pub mod Versions

@@ -1,0 +1,12 @@
+//! The versions in listings: the `maven-metadata.xml` of the Maven 2 repository layout.
+#![tactic(auto)]
+
+mod listing_err;
+mod names;
+mod read;
+#[cfg(test)]
+mod tests;
+mod versions;
+
+pub use listing_err::ListingErr;
+pub use read::read_listing;
