@@ -1,8 +1,8 @@
 -- What a document spells, the whole reader reads.
-use Rattle.std.proofs.Common.{◌≡◌, ℕ, inl, inr, Bool, true, false, cond, ◌||◌, List, [], ◌∷◌, ◌++◌, refl, sym, ◌∙◌, ap, subst, Option, Some, None}
+use Rattle.std.proofs.Common.{◌≡◌, ℕ, inl, inr, Bool, true, false, cond, ◌||◌, List, [], ◌∷◌, ◌++◌, refl, sym, ◌∙◌, ap, subst, drop, Option, Some, None}
 use Rattle.std.specs.Prelude.{◌==◌, codes, nat_lt}
 use Rattle.std.specs.Char.{to_ascii_lowercase}
-use Rattle.std.proofs.lemmas.Bool.{and_parts, and_from, eqb-true, cases_Bool, false≢true}
+use Rattle.std.proofs.lemmas.Bool.{and_parts, and_from, eq-eqb, eqb-true, cases_Bool, false≢true}
 use Rattle.std.proofs.lemmas.List.{append_assoc, map-append}
 use Rattle.fault_place.specs.Reader.{goes_with, reads}
 use Rattle.pom_grammar.specs.declared.encoding.Encoding.{Encoding}
@@ -14,7 +14,10 @@ use Rattle.pom_grammar.specs.declared.tree.Tree.{Tree}
 use Rattle.pom_grammar.specs.Characters.{is_space, is_empty, begins_with, onto}
 use Rattle.pom_grammar.specs.Encodings.{IsText, goes_on, tails, next_tail}
 use Rattle.pom_grammar.specs.Document.{Quote, quote_byte, question, ends_from, backward}
-use Rattle.pom_grammar.specs.Declarations.{Found, seeking, naming, named, found_from, found_in, lowered, same, known, encoding_of, IsDeclaration, declares}
+use Rattle.std.specs.Str.{bytes_eq}
+use Rattle.std.proofs.lemmas.Slice.Eq.{bytes_eq-Decides}
+use Rattle.case_table.specs.Rows.{value_at}
+use Rattle.pom_grammar.specs.Declarations.{Found, seeking, naming, named, found_from, found_in, lowered, encodings, known, encoding_of, IsDeclaration, declares}
 use Rattle.pom_grammar.specs.Machine.{State, between, step, outcome, reader_with}
 use Rattle.pom_grammar.specs.Heads.{IsMark, no_mark, marked, IsHead, undeclared, declared, IsDocument, Start, at_start, bracket, behind_question, behind_x, behind_m, behind_l, Telling, Reading, begin, mark_one, mark_two, starting, in_declaration, in_body, is_alive, is_finished, told, next_telling, nothing_told, begins_latin1, alive_in, goes_on_from, may_go_on, body_in, expected, after, so_far, as_body, body_reading, start_step, read_step, read_outcome, reading_with, document_reader, lifted}
 use Rattle.pom_grammar.proofs.Bytes.{tails_more, onto_one}
@@ -102,28 +105,30 @@ latin1_shorter value more f =
     (λ g. or_left (begins_with (lowered value) (codes "iso-8859-1")) (begins_with (lowered value) (codes "latin1")) (begins_shorter (lowered value) (lowered more) (codes "iso-8859-1") (ap (λ x. begins_with x (codes "iso-8859-1")) (sym split) ∙ g)))
     (λ g. or_right (begins_with (lowered value) (codes "iso-8859-1")) (begins_with (lowered value) (codes "latin1")) (begins_shorter (lowered value) (lowered more) (codes "latin1") (ap (λ x. begins_with x (codes "latin1")) (sym split) ∙ g)))
 
-same_begins : (a b : List ℕ) → same a b ≡ true → begins_with a b ≡ true
-same_begins [] b f = refl
-same_begins (x ∷ a) [] f = absurd (false≢true f)
-same_begins (x ∷ a) (y ∷ b) f =
-    let both = and_parts (x == y) (same a b) f in
-    and_from (y == x) (begins_with a b) (let flip : x ≡ y = eqb-true x y both.0 in subst (λ z. (z == x) ≡ true) flip (subst (λ z. (x == z) ≡ true) (sym flip) both.0)) (same_begins a b both.1)
+begins_itself : (name : List ℕ) → begins_with name name ≡ true
+begins_itself [] = refl
+begins_itself (c ∷ name) = and_from (c == c) (begins_with name name) (eq-eqb c c refl) (begins_itself name)
+
+-- the name of an encoding is that of a row, or stands below it
+row_or : (word name : List ℕ) (e : Encoding) (rows : List (List ℕ × Encoding)) (P : Type 0) → value_at name ((word, e) ∷ rows) ≡ Some Latin1 → (word ≡ name → e ≡ Latin1 → P) → (value_at name rows ≡ Some Latin1 → P) → P
+row_or word name e rows P f g h =
+    elim (cases_Bool (bytes_eq word name)) [
+      | inl same ↦ g ((bytes_eq-Decides word name).0 same) (let is : ◌≡◌ {A = Option Encoding} (Some e) (Some Latin1) = rw same at f in cc)
+      | inr apart ↦ h (rw apart at f)
+    ]
 
 known_latin1 : (value : List ℕ) → known value ≡ Some Latin1 → begins_latin1 value ≡ true
 known_latin1 value f =
     let name : List ℕ = lowered value in
-    elim (cases_Bool (same name (codes "utf-8") || same name (codes "utf8"))) [
-      | inl a ↦ let no : ◌≡◌ {A = Option Encoding} (Some Utf8) (Some Latin1) = sym (ap (λ b. cond b (Some Utf8) (cond (same name (codes "us-ascii") || same name (codes "ascii")) (Some Ascii) (cond (same name (codes "iso-8859-1") || same name (codes "latin1")) (Some Latin1) None))) a) ∙ f in let never : ⊥ = cc in absurd never
-      | inr a ↦ elim (cases_Bool (same name (codes "us-ascii") || same name (codes "ascii"))) [
-        | inl b ↦ let no : ◌≡◌ {A = Option Encoding} (Some Ascii) (Some Latin1) = sym (rw (a, b) refl) ∙ f in let never : ⊥ = cc in absurd never
-        | inr b ↦ elim (cases_Bool (same name (codes "iso-8859-1") || same name (codes "latin1"))) [
-          | inl d ↦ or_cases (same name (codes "iso-8859-1")) (same name (codes "latin1")) d (begins_latin1 value ≡ true)
-              (λ g. or_left (begins_with name (codes "iso-8859-1")) (begins_with name (codes "latin1")) (same_begins name (codes "iso-8859-1") g))
-              (λ g. or_right (begins_with name (codes "iso-8859-1")) (begins_with name (codes "latin1")) (same_begins name (codes "latin1") g))
-          | inr d ↦ let no : ◌≡◌ {A = Option Encoding} None (Some Latin1) = sym (rw (a, b, d) refl) ∙ f in let never : ⊥ = cc in absurd never
-        ]
-      ]
-    ]
+    let P : Type 0 = begins_latin1 value ≡ true in
+    row_or (codes "ascii") name Ascii (drop 1 encodings) P f (λ is e. absurd (let no : ⊥ = cc in no))
+    (λ g1. row_or (codes "iso-8859-1") name Latin1 (drop 2 encodings) P g1
+    (λ is e. or_left (begins_with name (codes "iso-8859-1")) (begins_with name (codes "latin1")) (subst (λ x. begins_with x (codes "iso-8859-1") ≡ true) is (begins_itself (codes "iso-8859-1"))))
+    (λ g2. row_or (codes "latin1") name Latin1 (drop 3 encodings) P g2
+    (λ is e. or_right (begins_with name (codes "iso-8859-1")) (begins_with name (codes "latin1")) (subst (λ x. begins_with x (codes "latin1") ≡ true) is (begins_itself (codes "latin1"))))
+    (λ g3. row_or (codes "us-ascii") name Ascii (drop 4 encodings) P g3 (λ is e. absurd (let no : ⊥ = cc in no))
+    (λ g4. row_or (codes "utf-8") name Utf8 (drop 5 encodings) P g4 (λ is e. absurd (let no : ⊥ = cc in no))
+    (λ g5. row_or (codes "utf8") name Utf8 [] P g5 (λ is e. absurd (let no : ⊥ = cc in no)) (λ g6. absurd (let no : ⊥ = cc in no)))))))
 
 pub found_named : (value text : List ℕ) → found_from (named value) text ≡ named value
 found_named value [] = refl

@@ -1,6 +1,7 @@
 -- The encoding that a declaration names.
-use Rattle.std.specs.Prelude.{◌≡◌, ℕ, Bool, true, false, cond, ◌&&◌, ◌||◌, List, [], ◌∷◌, ◌++◌, map, Option, Some, None, ◌==◌, codes}
+use Rattle.std.specs.Prelude.{◌≡◌, ℕ, Bool, true, false, cond, ◌&&◌, List, [], ◌∷◌, ◌++◌, map, Option, Some, None, ◌==◌, codes}
 use Rattle.std.specs.Char.{to_ascii_lowercase}
+use Rattle.case_table.specs.Rows.{value_at}
 use Rattle.pom_grammar.specs.declared.encoding.Encoding.{Encoding}
 use Rattle.pom_grammar.specs.declared.encoding.Encoding.TheVariants.{Utf8, Ascii, Latin1}
 use Rattle.pom_grammar.specs.declared.encoding.Seek.{Seek}
@@ -61,18 +62,14 @@ found_in text = found_from (seeking Nothing) text
 abbrev pub lowered : List ℕ → List ℕ
 lowered value = map to_ascii_lowercase value
 
-abbrev pub same : List ℕ → List ℕ → Bool
-same [] [] = true
-same [] (b ∷ other) = false
-same (a ∷ text) [] = false
-same (a ∷ text) (b ∷ other) = a == b && same text other
-
 -- the names of encodings, in lower case
+abbrev pub encodings : List (List ℕ × Encoding)
+encodings =
+    (codes "ascii", Ascii) ∷ (codes "iso-8859-1", Latin1) ∷ (codes "latin1", Latin1) ∷ (codes "us-ascii", Ascii)
+    ∷ (codes "utf-8", Utf8) ∷ (codes "utf8", Utf8) ∷ []
+
 abbrev pub known_lowered : List ℕ → Option Encoding
-known_lowered name =
-    cond (same name (codes "utf-8") || same name (codes "utf8")) (Some Utf8)
-    (cond (same name (codes "us-ascii") || same name (codes "ascii")) (Some Ascii)
-    (cond (same name (codes "iso-8859-1") || same name (codes "latin1")) (Some Latin1) None))
+known_lowered name = value_at name encodings
 
 abbrev pub known : List ℕ → Option Encoding
 known value = known_lowered (lowered value)

@@ -1,5 +1,5 @@
 -- Characters that are written as references.
-use Rattle.std.specs.Prelude.{ℕ, zero, suc, ◌+◌, ◌-◌, ◌*◌, Bool, true, false, cond, not, ◌&&◌, List, [], ◌∷◌, ◌++◌, Option, Some, None, nat_lt, ◌==◌, codes, encode_utf8}
+use Rattle.std.specs.Prelude.{length, ℕ, zero, suc, ◌+◌, ◌-◌, ◌*◌, Bool, true, false, cond, not, ◌&&◌, List, [], ◌∷◌, ◌++◌, Option, Some, None, nat_lt, ◌==◌, codes, encode_utf8}
 use Rattle.pom_grammar.specs.declared.encoding.Encoding.{Encoding}
 use Rattle.pom_grammar.specs.Characters.{in_range, begins_with}
 use Rattle.pom_grammar.specs.Encodings.{utf8_of}
@@ -16,13 +16,17 @@ or_else (means len char) other = means len char
 abbrev pub if_begins : List ℕ → ℕ → ℕ → List ℕ → Meaning
 if_begins name len char text = cond (begins_with name text) (means len char) none
 
--- the five named entities
+-- the five named entities of XML, each with its character
+abbrev pub entities : List (List ℕ × ℕ)
+entities = (codes "amp", 38) ∷ (codes "apos", 39) ∷ (codes "gt", 62) ∷ (codes "lt", 60) ∷ (codes "quot", 34) ∷ []
+
+-- the entity that begins a text, its name ended by a semicolon
+abbrev pub named_in : List (List ℕ × ℕ) → List ℕ → Meaning
+named_in [] text = none
+named_in (row ∷ rows) text = or_else (if_begins (row.0 ++ 59 ∷ []) (length row.0 + 1) row.1 text) (named_in rows text)
+
 abbrev pub named : List ℕ → Meaning
-named text =
-    or_else (if_begins (codes "lt;") 3 60 text)
-    (or_else (if_begins (codes "gt;") 3 62 text)
-    (or_else (if_begins (codes "amp;") 4 38 text)
-    (or_else (if_begins (codes "quot;") 5 34 text) (if_begins (codes "apos;") 5 39 text))))
+named text = named_in entities text
 
 -- a Unicode scalar value above 0
 abbrev pub is_character : ℕ → Bool

@@ -11,7 +11,7 @@ use Rattle.pom_grammar.specs.declared.encoding.Seek.TheVariants.{Nothing}
 use Rattle.pom_grammar.specs.declared.tree.TextErr.TheVariants.{BadText}
 use Rattle.pom_grammar.specs.Characters.{is_space, begins_with, onto}
 use Rattle.pom_grammar.specs.Document.{Quote, question, backward, quote_byte}
-use Rattle.pom_grammar.specs.Declarations.{Found, seeking, naming, named, next_found, lowered, same, encoding_of, declares, declares_from, begins_space}
+use Rattle.pom_grammar.specs.Declarations.{Found, seeking, naming, named, next_found, lowered, encoding_of, declares, declares_from, begins_space}
 use Rattle.pom_grammar.specs.Machine.{State, between, step, outcome}
 use Rattle.pom_grammar.specs.Heads.{Start, at_start, bracket, behind_question, behind_x, behind_m, behind_l, Telling, Reading, begin, mark_one, starting, in_declaration, in_body, nothing_told, next_telling, may_go_on, body_in, expected, after, so_far, as_body, body_reading, start_step}
 use Rattle.pom_grammar.proofs.Bytes.{onto_one}
@@ -41,30 +41,6 @@ begins_all name wanted k h = ap (λ x. begins_with (lowered x) (drop k wanted)) 
 
 same_flip : (a b : ℕ) → (a == b) ≡ (b == a)
 same_flip a b = elim (cases_Bool (a == b)) [ inl is ↦ is ∙ sym (eq-eqb b a (sym (eqb-true a b is))) | inr other ↦ other ∙ sym (ne_eqb b a (λ f. false≢true (sym other ∙ eq-eqb a b (sym f)))) ]
-
-pub same_more : (name wanted : List ℕ) (k : ℕ) → k < length name → k < length wanted → get_or wanted k 0 ≡ to_ascii_lowercase (get_or name k 0) → same (lowered (drop k name)) (drop k wanted) ≡ same (lowered (drop (k + 1) name)) (drop (k + 1) wanted)
-same_more name wanted k f g h =
-    ap (λ x. same (lowered x) (drop k wanted)) (drop_more name k 0 f)
-    ∙ ap (same (to_ascii_lowercase (get_or name k 0) ∷ lowered (drop (k + 1) name))) (drop_more wanted k 0 g)
-    ∙ ap (λ b. b && same (lowered (drop (k + 1) name)) (drop (k + 1) wanted)) (eq-eqb (to_ascii_lowercase (get_or name k 0)) (get_or wanted k 0) (sym h))
-
-pub same_not : (name wanted : List ℕ) (k : ℕ) → k < length name → (k < length wanted → get_or wanted k 0 ≡ to_ascii_lowercase (get_or name k 0) → ⊥) → same (lowered (drop k name)) (drop k wanted) ≡ false
-same_not name wanted k f g =
-    ap (λ x. same (lowered x) (drop k wanted)) (drop_more name k 0 f)
-    ∙ elim (cases_lt k (length wanted)) [
-      | inl here ↦
-          ap (same (to_ascii_lowercase (get_or name k 0) ∷ lowered (drop (k + 1) name))) (drop_more wanted k 0 here)
-          ∙ ap (λ b. b && same (lowered (drop (k + 1) name)) (drop (k + 1) wanted)) (ne_eqb (to_ascii_lowercase (get_or name k 0)) (get_or wanted k 0) (λ s. g here (sym s)))
-      | inr past ↦ ap (same (to_ascii_lowercase (get_or name k 0) ∷ lowered (drop (k + 1) name))) (drop_all k wanted past)
-    ]
-
-pub same_all : (name wanted : List ℕ) (k : ℕ) → length name ≤ k → k ≤ length wanted → (k == length wanted) ≡ same (lowered (drop k name)) (drop k wanted)
-same_all name wanted k h within =
-    let first : same (lowered (drop k name)) (drop k wanted) ≡ same [] (drop k wanted) = ap (λ x. same (lowered x) (drop k wanted)) (drop_all k name h) in
-    elim (cases_lt k (length wanted)) [
-      | inl here ↦ ne_eqb k (length wanted) (λ f. let no : ⊥ = omega (arith, f, here) in no) ∙ sym (first ∙ ap (same []) (drop_more wanted k 0 here))
-      | inr past ↦ eq-eqb k (length wanted) (omega (arith, within, past)) ∙ sym (first ∙ ap (same []) (drop_all k wanted past))
-    ]
 
 -- an unknown encoding
 pub unknown_more : (bytes : List ℕ) (start then i : ℕ) (found next : Found) (question : Bool) → i < length bytes → (question && get_or bytes i 0 == 62) ≡ false → start_next found (get_or bytes i 0) i start ≡ then → next ≡ next_found found (get_or bytes i 0)

@@ -1,9 +1,9 @@
 -- Facts on texts, their white space and their references.
 use Rattle.std.proofs.Common.{◌≡◌, ℕ, inl, inr, zero, suc, ◌+◌, ◌-◌, ◌*◌, ◌/◌, ◌<◌, ◌≤◌, Bool, true, false, cond, ◌&&◌, List, [], ◌∷◌, ◌++◌, length, take, drop, get_or, refl, sym, ◌∙◌, ap, subst, arith, Option, Some, None}
-use Rattle.std.specs.Prelude.{◌==◌, nat_lt, encode_utf8, slice_range, codes, min}
+use Rattle.std.specs.Prelude.{◌==◌, nat_lt, encode_utf8, slice_range, min}
 use Rattle.std.specs.List.{flat_map}
-use Rattle.std.proofs.lemmas.Bool.{and_left, and_right, and_parts, leb-true, ltb-true, lt-ltb, le-ltb, false≢true, eqb-true, ne_eqb, cases_Bool, cases_lt}
-use Rattle.std.proofs.lemmas.List.{append_assoc, append-nil, drop_more, drop_all, take-append-drop, drop-drop, take_more, length-drop}
+use Rattle.std.proofs.lemmas.Bool.{and_left, and_right, and_parts, leb-true, ltb-true, lt-ltb, le-ltb, eqb-true, ne_eqb, cases_Bool, cases_lt}
+use Rattle.std.proofs.lemmas.List.{length-append, append_assoc, append-nil, drop_more, drop_all, take-append-drop, drop-drop, take_more, length-drop}
 use Rattle.std.proofs.lemmas.Slice.{between_from_start}
 use Rattle.std.proofs.lemmas.Str.{encode_ascii}
 use lib.Utf8.{encode, next}
@@ -13,13 +13,15 @@ use Rattle.pom_grammar.specs.declared.encoding.Tail.{Tail}
 use Rattle.pom_grammar.specs.declared.encoding.Tail.TheVariants.{Whole}
 use Rattle.pom_grammar.specs.Characters.{is_space, every, begins_with, local_from, skip_space, cut_space, put_front}
 use Rattle.pom_grammar.specs.Encodings.{IsText, tails, next_tail, goes_on, utf8_of}
-use Rattle.pom_grammar.specs.References.{or_else, if_begins, named, is_character, digit_of, base_of, number_end, on_digit, number_from, hexadecimal, numbered, Meaning, none, means, reference, meaning_at, meant, length_of, expanded_from, expanded}
+use Rattle.pom_grammar.specs.References.{or_else, if_begins, entities, named_in, named, is_character, digit_of, base_of, number_end, on_digit, number_from, hexadecimal, numbered, Meaning, none, means, reference, meaning_at, meant, length_of, expanded_from, expanded}
 use Rattle.pom_grammar.specs.Machine.{join}
 use Rattle.pom_grammar.proofs.Bytes.{tails_more, join_skips}
 use Rattle.pom_grammar.proofs.Takes.{goes_on_some, space_cases}
 use Rattle.pom_grammar.proofs.Lives.{ascii_next}
 use Rattle.pom_text.specs.Scans.{is_whole}
 use Rattle.pom_text.specs.Texts.{is_no_ampersand, has_no_ampersand}
+use Rattle.std.specs.List.{list_all}
+use Rattle.pom_text.proofs.TableFacts.{is_entity, last_sign, begins_at}
 use Rattle.pom_text.proofs.Runs.{high_after, whole_is, not_true}
 
 -- an ASCII byte stands between characters
@@ -228,12 +230,6 @@ number_ends hex some len value (c ∷ text) n char f = go (digit_of hex c) f (λ
         ]
     go (Some d) g h = let on = h d g in (suc on.0, omega (arith, on.1), omega (arith, on.2), on.3)
 
-begins_at : (front text : List ℕ) (k : ℕ) → begins_with front text ≡ true → k < length front → (k < length text) × (get_or text k 0 ≡ get_or front k 0)
-begins_at [] text k f h = absurd (omega (arith, h))
-begins_at (a ∷ front) [] k f h = absurd (false≢true f)
-begins_at (a ∷ front) (c ∷ text) zero f h = let both = and_parts (c == a) (begins_with front text) f in (omega arith, eqb-true c a both.0)
-begins_at (a ∷ front) (c ∷ text) (suc k) f h = let on = begins_at front text k (and_parts (c == a) (begins_with front text) f).1 (omega (arith, h)) in (omega (arith, on.0), on.1)
-
 or_else_cases : (m other : Meaning) (n char : ℕ) (P : Type 0) → or_else m other ≡ means n char → (m ≡ means n char → P) → (other ≡ means n char → P) → P
 or_else_cases none other n char P f g h = h f
 or_else_cases (means len c) other n char P f g h = g f
@@ -272,13 +268,15 @@ numbered_ends (c ∷ text) n char f =
 
 pub reference_ends : (text : List ℕ) (n char : ℕ) → reference text ≡ means n char → Ends text n
 reference_ends text n char f =
-    or_else_cases (named text) (numbered text) n char (Ends text n) f
-    (λ g. or_else_cases (if_begins (codes "lt;") 3 60 text) _ n char (Ends text n) g (λ h. entity_ends (codes "lt;") text 2 60 n char h (omega arith) refl)
-    (λ g1. or_else_cases (if_begins (codes "gt;") 3 62 text) _ n char (Ends text n) g1 (λ h. entity_ends (codes "gt;") text 2 62 n char h (omega arith) refl)
-    (λ g2. or_else_cases (if_begins (codes "amp;") 4 38 text) _ n char (Ends text n) g2 (λ h. entity_ends (codes "amp;") text 3 38 n char h (omega arith) refl)
-    (λ g3. or_else_cases (if_begins (codes "quot;") 5 34 text) (if_begins (codes "apos;") 5 39 text) n char (Ends text n) g3 (λ h. entity_ends (codes "quot;") text 4 34 n char h (omega arith) refl)
-    (λ h. entity_ends (codes "apos;") text 4 39 n char h (omega arith) refl)))))
-    (λ g. numbered_ends text n char g)
+    or_else_cases (named text) (numbered text) n char (Ends text n) f (λ g. named_ends entities refl g) (λ g. numbered_ends text n char g)
+  where
+    named_ends : (rows : List (List ℕ × ℕ)) → list_all is_entity rows ≡ true → named_in rows text ≡ means n char → Ends text n
+    named_ends [] some g = let no : ⊥ = cc in absurd no
+    named_ends (row ∷ rows) some g =
+        let both = and_parts (is_entity row) (list_all is_entity rows) some in
+        or_else_cases (if_begins (row.0 ++ 59 ∷ []) (length row.0 + 1) row.1 text) (named_in rows text) n char (Ends text n) g
+        (λ h. entity_ends (row.0 ++ 59 ∷ []) text (length row.0) row.1 n char h (omega (arith, length-append row.0 (59 ∷ []))) (last_sign row.0))
+        (λ h. named_ends rows both.1 h)
 
 -- what stands at an ampersand
 pub reference_text : (e : Encoding) (run : List ℕ) (at n : ℕ) → at < length run → get_or run at 0 ≡ 38 → Ends (drop (at + 1) run) n → IsText e (drop at run) → IsText e (drop (at + 1 + n) run)

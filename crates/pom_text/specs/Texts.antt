@@ -16,3 +16,8 @@ has_no_ampersand text = every is_no_ampersand text
 
 abbrev pub number_meaning : ℕ → ℕ → Meaning
 number_meaning value len = cond (is_character value) (means (len + 1) value) none
+
+-- what a name of this length means, with a semicolon behind it
+abbrev pub met : ℕ → Option ℕ → Meaning
+met len None = none
+met len (Some char) = means (len + 1) char

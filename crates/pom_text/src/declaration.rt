@@ -1,7 +1,7 @@
 ghost use Rattle.std.specs.Prelude.{◌≡◌, ◌+◌, ◌<◌, ◌≤◌, ◌==◌, ℕ, List, [], ◌∷◌, true, false, length, drop, slice_index, slice_range, IfOk, IfErr, IsErr, IsTrue, Err, Ok, Some, None};
 ghost use Rattle.pom_grammar.specs.Encodings.{goes_on, next_tail as next_tail_spec};
 ghost use Rattle.pom_grammar.specs.Characters.{begins_with};
-ghost use Rattle.pom_grammar.specs.Declarations.{seek_if as seek_spec, next_seek as next_seek_spec, next_found, seeking, lowered, same, known as known_spec, encoding_of, declares};
+ghost use Rattle.pom_grammar.specs.Declarations.{seek_if as seek_spec, next_seek as next_seek_spec, next_found, seeking, lowered, encodings as encoding_rows, encoding_of, declares};
 ghost use Rattle.pom_grammar.specs.Document.{quote_byte};
 ghost use Rattle.pom_grammar.specs.Machine.{between};
 ghost use Rattle.pom_grammar.specs.Heads.{begins_latin1 as latin1_test, told as told_spec, is_alive as alive_test, is_finished as finished_test, body_in, in_body, next_telling, may_go_on, in_declaration, nothing_told, starting, at_start};
@@ -11,7 +11,9 @@ ghost use Rattle.pom_text.specs.DeclarationViews.{IsNamed, named_view, start_of,
 use crate::characters::is_space;
 use crate::encoding::next_tail;
 use crate::scans::{is_at, space_at, stands};
+use crate::tables::known;
 use crate::tree::bad_text;
+use case_table::Table;
 use pom_grammar::{Encoding, Seek, Tail, TextErr};
 
 /// What is known of the encoding behind a front of the declaration. Places are from the start of
@@ -119,20 +121,6 @@ fn next_named(bytes: &[u8], named: Named, at: usize) -> Named
     }
 }
 
-/// Whether a name with its letters lowered is another.
-fn lowered_is(name: &[u8], wanted: &[u8]) -> bool
-    ensures { result ≡ same (lowered name.now) wanted.now }
-{
-    let mut i = 0;
-    for letter in name {
-        if !is_at(wanted, i, letter.to_ascii_lowercase()) {
-            return false;
-        }
-        i += 1;
-    }
-    i == wanted.len()
-}
-
 /// Whether a name with its letters lowered begins another.
 fn lowered_begins(name: &[u8], wanted: &[u8]) -> bool
     ensures { result ≡ begins_with (lowered name.now) wanted.now }
@@ -145,22 +133,6 @@ fn lowered_begins(name: &[u8], wanted: &[u8]) -> bool
         i += 1;
     }
     true
-}
-
-/// The encoding of a name.
-fn known(name: &[u8]) -> Option<Encoding>
-    ensures { result ≡ known_spec name.now }
-{
-    if lowered_is(name, b"utf-8") || lowered_is(name, b"utf8") {
-        return Some(Encoding::Utf8);
-    }
-    if lowered_is(name, b"us-ascii") || lowered_is(name, b"ascii") {
-        return Some(Encoding::Ascii);
-    }
-    if lowered_is(name, b"iso-8859-1") || lowered_is(name, b"latin1") {
-        return Some(Encoding::Latin1);
-    }
-    None
 }
 
 fn begins_latin1(name: &[u8]) -> bool
@@ -216,13 +188,14 @@ fn told(bytes: &[u8], at: usize, seen: &Seen, encoding: Encoding) -> Option<Tail
 }
 
 /// The encoding that the declaration gives if it ends here.
-fn given(bytes: &[u8], at: usize, named: Named) -> Option<Encoding>
+fn given(encodings: &Table<Encoding>, bytes: &[u8], at: usize, named: Named) -> Option<Encoding>
     requires within { at ≤ length bytes.now }
     requires is_named { IsNamed at named }
+    requires table { encodings.now ≡ encoding_rows }
     ensures { result ≡ encoding_of (named_view bytes.now at named) }
 {
     match named {
-        Named::Closed { start, end } => known(&bytes[start..end]),
+        Named::Closed { start, end } => known(encodings, &bytes[start..end]),
         Named::Value { .. } => Some(Encoding::Utf8),
         Named::Not(_) => Some(Encoding::Utf8),
     }
@@ -241,15 +214,16 @@ fn is_finished(tail: Option<Tail>) -> bool
 }
 
 /// Whether the front up to a place can go on.
-fn lives(bytes: &[u8], at: usize, seen: &Seen) -> bool
+fn lives(encodings: &Table<Encoding>, bytes: &[u8], at: usize, seen: &Seen) -> bool
     requires within { at ≤ length bytes.now }
     requires is_named { IsNamed at seen.now.named }
+    requires table { encodings.now ≡ encoding_rows }
     ensures { result ≡ may_go_on (seen_view bytes.now at seen.now) }
 {
     match seen.named {
         Named::Not(_) => true,
         Named::Value { start, .. } => begins_latin1(&bytes[start..at]) || is_alive(seen.utf8),
-        Named::Closed { start, end } => match known(&bytes[start..end]) {
+        Named::Closed { start, end } => match known(encodings, &bytes[start..end]) {
             Some(encoding) => is_alive(told(bytes, at, seen, encoding)),
             None => false,
         },
@@ -257,13 +231,14 @@ fn lives(bytes: &[u8], at: usize, seen: &Seen) -> bool
 }
 
 /// The place of an encoding's name that is not known, if the declaration ends here.
-fn if_unknown(bytes: &[u8], at: usize, named: Named) -> Option<usize>
+fn if_unknown(encodings: &Table<Encoding>, bytes: &[u8], at: usize, named: Named) -> Option<usize>
     requires within { at ≤ length bytes.now }
     requires is_named { IsNamed at named }
+    requires table { encodings.now ≡ encoding_rows }
     ensures { result ≡ unknown_spec (named_view bytes.now at named) (start_of named) }
 {
     match named {
-        Named::Closed { start, end } => match known(&bytes[start..end]) {
+        Named::Closed { start, end } => match known(encodings, &bytes[start..end]) {
             Some(_) => None,
             None => Some(start),
         },
@@ -273,15 +248,16 @@ fn if_unknown(bytes: &[u8], at: usize, named: Named) -> Option<usize>
 }
 
 /// The place of the encoding's name, where a declaration gives one that is not known.
-fn unknown(bytes: &[u8], at: usize) -> Option<usize>
-    requires { at ≤ length bytes.now }
+fn unknown(encodings: &Table<Encoding>, bytes: &[u8], at: usize) -> Option<usize>
+    requires within { at ≤ length bytes.now }
+    requires table { encodings.now ≡ encoding_rows }
     ensures { result ≡ unknown_from 0 (seeking Seek.Nothing) false (drop at bytes.now) at }
 {
     let mut named = Named::Not(Seek::Nothing);
     let mut question = false;
     for i in at..bytes.len() {
         if question && bytes[i] == b'>' {
-            return if_unknown(bytes, i, named);
+            return if_unknown(encodings, bytes, i, named);
         }
         named = next_named(bytes, named, i);
         question = bytes[i] == b'?';
@@ -297,15 +273,21 @@ pub(crate) struct Head {
 }
 
 /// The end of a declaration, whose bracket stands here.
-fn head_end(bytes: &[u8], at: usize, seen: &Seen) -> Result<Head, TextErr>
+fn head_end(
+    encodings: &Table<Encoding>,
+    bytes: &[u8],
+    at: usize,
+    seen: &Seen,
+) -> Result<Head, TextErr>
     requires within { at < length bytes.now }
     requires is_named { IsNamed at seen.now.named }
+    requires table { encodings.now ≡ encoding_rows }
     ensures at { IfOk result (λ head. head.at ≡ at + 1) }
     ensures ok { IfOk result (λ head. body_in (encoding_of (named_view bytes.now at seen.now.named)) (seen_view bytes.now at seen.now) ≡ Some (in_body head.encoding (between None))) }
     ensures err { IfErr result (λ fault. fault ≡ TextErr.BadText at) }
     ensures none { IsErr result → body_in (encoding_of (named_view bytes.now at seen.now.named)) (seen_view bytes.now at seen.now) ≡ None }
 {
-    match given(bytes, at, seen.named) {
+    match given(encodings, bytes, at, seen.named) {
         Some(encoding) => {
             if is_finished(told(bytes, at, seen, encoding)) {
                 Ok(Head {
@@ -321,8 +303,9 @@ fn head_end(bytes: &[u8], at: usize, seen: &Seen) -> Result<Head, TextErr>
 }
 
 /// The declaration's text, behind `<?xml` and a white space.
-fn declared_text(bytes: &[u8], at: usize) -> Result<Head, TextErr>
-    requires { at ≤ length bytes.now }
+fn declared_text(encodings: &Table<Encoding>, bytes: &[u8], at: usize) -> Result<Head, TextErr>
+    requires within { at ≤ length bytes.now }
+    requires table { encodings.now ≡ encoding_rows }
     ensures forth { IfOk result (λ head. at ≤ head.at) }
     ensures past { IfOk result (λ head. head.at ≤ length bytes.now) }
     ensures ok { IfOk result (λ head. (space : ℕ) → reading_verdict (in_declaration space [] nothing_told) (drop at bytes.now) at ≡ verdict head.encoding (between None) (drop head.at bytes.now) head.at) }
@@ -336,13 +319,13 @@ fn declared_text(bytes: &[u8], at: usize) -> Result<Head, TextErr>
     };
     for i in at..bytes.len() {
         if seen.question && bytes[i] == b'>' {
-            return match head_end(bytes, i, &seen) {
+            return match head_end(encodings, bytes, i, &seen) {
                 Ok(head) => Ok(head),
                 Err(fault) => Err(fault),
             };
         }
         seen = next_seen(bytes, seen, i);
-        if !lives(bytes, i + 1, &seen) {
+        if !lives(encodings, bytes, i + 1, &seen) {
             return Err(bad_text(i));
         }
     }
@@ -350,16 +333,17 @@ fn declared_text(bytes: &[u8], at: usize) -> Result<Head, TextErr>
 }
 
 /// A declaration, behind `<?xml` and a white space.
-fn declared(bytes: &[u8], at: usize) -> Result<Head, TextErr>
-    requires { at ≤ length bytes.now }
+fn declared(encodings: &Table<Encoding>, bytes: &[u8], at: usize) -> Result<Head, TextErr>
+    requires within { at ≤ length bytes.now }
+    requires table { encodings.now ≡ encoding_rows }
     ensures forth { IfOk result (λ head. at ≤ head.at) }
     ensures past { IfOk result (λ head. head.at ≤ length bytes.now) }
     ensures ok { IfOk result (λ head. (space : ℕ) → unless_unknown (unknown_from 0 (seeking Seek.Nothing) false (drop at bytes.now) at) (reading_verdict (in_declaration space [] nothing_told) (drop at bytes.now) at) ≡ verdict head.encoding (between None) (drop head.at bytes.now) head.at) }
     ensures err { IfErr result (λ fault. (space : ℕ) → unless_unknown (unknown_from 0 (seeking Seek.Nothing) false (drop at bytes.now) at) (reading_verdict (in_declaration space [] nothing_told) (drop at bytes.now) at) ≡ Err fault) }
 {
-    match unknown(bytes, at) {
+    match unknown(encodings, bytes, at) {
         Some(place) => Err(TextErr::UnknownEncoding(place as u64)),
-        None => match declared_text(bytes, at) {
+        None => match declared_text(encodings, bytes, at) {
             Ok(head) => Ok(head),
             Err(fault) => Err(fault),
         },
@@ -380,14 +364,15 @@ fn is_declared(bytes: &[u8], at: usize) -> bool
 }
 
 /// What stands behind the byte-order mark, or at the start.
-fn behind_mark(bytes: &[u8], at: usize) -> Result<Head, TextErr>
-    requires { at ≤ length bytes.now }
+fn behind_mark(encodings: &Table<Encoding>, bytes: &[u8], at: usize) -> Result<Head, TextErr>
+    requires within { at ≤ length bytes.now }
+    requires table { encodings.now ≡ encoding_rows }
     ensures past { IfOk result (λ head. head.at ≤ length bytes.now) }
     ensures ok { IfOk result (λ head. unless_unknown (unknown_behind at (drop at bytes.now)) (reading_verdict (starting at_start) (drop at bytes.now) at) ≡ verdict head.encoding (between None) (drop head.at bytes.now) head.at) }
     ensures err { IfErr result (λ fault. unless_unknown (unknown_behind at (drop at bytes.now)) (reading_verdict (starting at_start) (drop at bytes.now) at) ≡ Err fault) }
 {
     if is_declared(bytes, at) {
-        match declared(bytes, at + 6) {
+        match declared(encodings, bytes, at + 6) {
             Ok(head) => Ok(head),
             Err(fault) => Err(fault),
         }
@@ -400,13 +385,14 @@ fn behind_mark(bytes: &[u8], at: usize) -> Result<Head, TextErr>
 }
 
 /// What stands before the document's text: the byte-order mark and the declaration.
-pub(crate) fn read_head(bytes: &[u8]) -> Result<Head, TextErr>
+pub(crate) fn read_head(encodings: &Table<Encoding>, bytes: &[u8]) -> Result<Head, TextErr>
+    requires { encodings.now ≡ encoding_rows }
     ensures past { IfOk result (λ head. head.at ≤ length bytes.now) }
     ensures ok { IfOk result (λ head. whole_verdict bytes.now ≡ verdict head.encoding (between None) (drop head.at bytes.now) head.at) }
     ensures err { IfErr result (λ fault. whole_verdict bytes.now ≡ Err fault) }
 {
     if !is_at(bytes, 0, 0xef) {
-        return match behind_mark(bytes, 0) {
+        return match behind_mark(encodings, bytes, 0) {
             Ok(head) => Ok(head),
             Err(fault) => Err(fault),
         };
@@ -417,7 +403,7 @@ pub(crate) fn read_head(bytes: &[u8]) -> Result<Head, TextErr>
     if !is_at(bytes, 2, 0xbf) {
         return Err(bad_text(2));
     }
-    match behind_mark(bytes, 3) {
+    match behind_mark(encodings, bytes, 3) {
         Ok(head) => Ok(head),
         Err(fault) => Err(fault),
     }

@@ -9,6 +9,7 @@ mod markup;
 mod reading;
 mod references;
 mod scans;
+mod tables;
 mod tags;
 mod texts;
 mod tree;

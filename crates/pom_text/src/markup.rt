@@ -2,7 +2,7 @@ ghost use Rattle.std.specs.Prelude.{◌≡◌, ◌+◌, ◌-◌, ◌<◌, ◌≤
 ghost use Rattle.pom_grammar.specs.declared.tree.TextErr.TheVariants.{NoMemory as OutOfMemory};
 ghost use Rattle.pom_grammar.specs.Machine.{Place, within as inside, opened, bang, back, with_text};
 ghost use Rattle.pom_grammar.specs.Encodings.{IsText, utf8_of};
-ghost use Rattle.pom_grammar.specs.References.{expanded};
+ghost use Rattle.pom_grammar.specs.References.{entities as entity_rows, expanded};
 ghost use Rattle.pom_text.specs.Scans.{Goes, Faults};
 ghost use Rattle.pom_text.specs.Views.{frame_view, open_view, doctype_test};
 
@@ -12,6 +12,7 @@ use crate::scans::{
     cdata_end, is_at, is_name_at, literal_end, mark_end, space_end, stands, text_end,
 };
 use crate::tree::{Frame, Open, Step, bad_text};
+use case_table::Table;
 use pom_grammar::{Encoding, TextErr};
 use res_base::NoMemory;
 use std::alloc::Global;
@@ -193,15 +194,17 @@ fn top_part(
 
 /// Puts a run of characters into the element that it is in.
 fn add_text(
+    entities: &Table<char>,
     run: &[u8],
     encoding: Encoding,
     mut frame: Frame,
     mut stack: Open,
 ) -> Result<Open, NoMemory>
-    requires { IsText encoding run.now }
+    requires is_text { IsText encoding run.now }
+    requires table { entities.now ≡ entity_rows }
     ensures { IfOk result (λ then. open_view then ≡ inside (with_text (frame_view frame) (expanded encoding run.now)) (open_view stack)) }
 {
-    add_run(&mut frame.text, run, encoding)?;
+    add_run(entities, &mut frame.text, run, encoding)?;
     stack.frames.push(frame)?;
     Ok(stack)
 }
@@ -209,13 +212,15 @@ fn add_text(
 /// Characters in an element, and what stands behind them.
 fn inner_part(
     alloc: Global,
+    entities: &Table<char>,
     bytes: &[u8],
     at: usize,
     encoding: Encoding,
     frame: Frame,
     stack: Open,
 ) -> Result<Step, TextErr>
-    requires { at ≤ length bytes.now }
+    requires within { at ≤ length bytes.now }
+    requires table { entities.now ≡ entity_rows }
     ensures forth { IfOk result (λ next. at < next.at) }
     ensures past { IfOk result (λ next. next.at ≤ length bytes.now) }
     ensures ok { IfOk result (λ next. Goes encoding bytes.now (back (inside (frame_view frame) (open_view stack))) at (back (open_view next.stack)) next.at) }
@@ -225,7 +230,7 @@ fn inner_part(
         Ok(end) => end,
         Err(fault) => return Err(fault),
     };
-    let then = match add_text(&bytes[at..end], encoding, frame, stack) {
+    let then = match add_text(entities, &bytes[at..end], encoding, frame, stack) {
         Ok(then) => then,
         Err(_) => return Err(TextErr::NoMemory),
     };
@@ -238,12 +243,14 @@ fn inner_part(
 /// A run of characters and what stands behind it.
 pub(crate) fn part(
     alloc: Global,
+    entities: &Table<char>,
     bytes: &[u8],
     at: usize,
     encoding: Encoding,
     mut stack: Open,
 ) -> Result<Step, TextErr>
-    requires { at < length bytes.now }
+    requires within { at < length bytes.now }
+    requires table { entities.now ≡ entity_rows }
     ensures forth { IfOk result (λ next. at < next.at) }
     ensures past { IfOk result (λ next. next.at ≤ length bytes.now) }
     ensures ok { IfOk result (λ next. Goes encoding bytes.now (back (open_view stack)) at (back (open_view next.stack)) next.at) }
@@ -254,7 +261,7 @@ pub(crate) fn part(
             Ok(next) => Ok(next),
             Err(fault) => Err(fault),
         },
-        Some(frame) => match inner_part(alloc, bytes, at, encoding, frame, stack) {
+        Some(frame) => match inner_part(alloc, entities, bytes, at, encoding, frame, stack) {
             Ok(next) => Ok(next),
             Err(fault) => Err(fault),
         },

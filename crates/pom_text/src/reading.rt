@@ -1,5 +1,7 @@
 ghost use Rattle.std.specs.Prelude.{◌≡◌, ◌⊎◌, List, Ok, Err, IfOk, IfErr};
 ghost use Rattle.pom_grammar.specs.declared.tree.TextErr.TheVariants.{NoMemory as OutOfMemory};
+ghost use Rattle.pom_grammar.specs.Declarations.{encodings as encoding_rows};
+ghost use Rattle.pom_grammar.specs.References.{entities as entity_rows};
 ghost use Rattle.pom_grammar.specs.Faults.{Says};
 ghost use Rattle.pom_grammar.specs.Machine.{back, outcome};
 ghost use Rattle.pom_grammar.specs.Verdicts.{ended, whole_verdict};
@@ -7,8 +9,10 @@ ghost use Rattle.pom_text.specs.Views.{open_view};
 
 use crate::declaration::read_head;
 use crate::markup::part;
+use crate::tables::{encoding_table, entity_table};
 use crate::tree::{Open, bad_text};
-use pom_grammar::{TextErr, Tree};
+use case_table::Table;
+use pom_grammar::{Encoding, TextErr, Tree};
 use res_base::List;
 use std::alloc::Global;
 
@@ -27,12 +31,19 @@ fn finish(end: usize, stack: Open) -> Result<Tree, TextErr>
     }
 }
 
-/// What is answered for a text, unless the memory ends.
-fn read(alloc: Global, bytes: &[u8]) -> Result<Tree, TextErr>
+/// What is answered for a text, by the two tables, unless the memory ends.
+fn read_with(
+    alloc: Global,
+    encodings: &Table<Encoding>,
+    entities: &Table<char>,
+    bytes: &[u8],
+) -> Result<Tree, TextErr>
+    requires encodings { encodings.now ≡ encoding_rows }
+    requires entities { entities.now ≡ entity_rows }
     ensures ok { IfOk result (λ tree. whole_verdict bytes.now ≡ Ok tree) }
     ensures err { IfErr result (λ fault. (fault ≡ OutOfMemory) ⊎ (whole_verdict bytes.now ≡ Err fault)) }
 {
-    let head = match read_head(bytes) {
+    let head = match read_head(encodings, bytes) {
         Ok(head) => head,
         Err(fault) => return Err(fault),
     };
@@ -43,7 +54,7 @@ fn read(alloc: Global, bytes: &[u8]) -> Result<Tree, TextErr>
         frames: List::new(alloc),
     };
     while at < bytes.len() {
-        let next = match part(alloc, bytes, at, encoding, stack) {
+        let next = match part(alloc, entities, bytes, at, encoding, stack) {
             Ok(next) => next,
             Err(fault) => return Err(fault),
         };
@@ -51,6 +62,25 @@ fn read(alloc: Global, bytes: &[u8]) -> Result<Tree, TextErr>
         stack = next.stack;
     }
     match finish(at, stack) {
+        Ok(tree) => Ok(tree),
+        Err(fault) => Err(fault),
+    }
+}
+
+/// What is answered for a text, unless the memory ends.
+fn read(alloc: Global, bytes: &[u8]) -> Result<Tree, TextErr>
+    ensures ok { IfOk result (λ tree. whole_verdict bytes.now ≡ Ok tree) }
+    ensures err { IfErr result (λ fault. (fault ≡ OutOfMemory) ⊎ (whole_verdict bytes.now ≡ Err fault)) }
+{
+    let encodings = match encoding_table(alloc) {
+        Ok(table) => table,
+        Err(_) => return Err(TextErr::NoMemory),
+    };
+    let entities = match entity_table(alloc) {
+        Ok(table) => table,
+        Err(_) => return Err(TextErr::NoMemory),
+    };
+    match read_with(alloc, &encodings, &entities, bytes) {
         Ok(tree) => Ok(tree),
         Err(fault) => Err(fault),
     }

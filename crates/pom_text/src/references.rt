@@ -1,14 +1,16 @@
-ghost use Rattle.std.specs.Prelude.{◌≡◌, ◌++◌, ◌+◌, ◌<◌, ◌≤◌, ◌^◌, true, false, length, take, drop, slice_range, slice_index, IfOk, OnOk, encode_utf8, Some, None};
+ghost use Rattle.std.specs.Prelude.{◌≡◌, ◌++◌, ◌+◌, ◌<◌, ◌≤◌, ◌^◌, ℕ, true, false, length, take, drop, slice_range, slice_index, IfOk, OnOk, encode_utf8, Some, None};
 ghost use Rattle.pom_grammar.specs.declared.encoding.Encoding.{Encoding};
 ghost use Rattle.pom_grammar.specs.Characters.{cut_space, is_space as space_test};
 ghost use Rattle.pom_grammar.specs.Encodings.{IsText, utf8_of};
-ghost use Rattle.pom_grammar.specs.References.{digit_of as digit_spec, number_from, reference, numbered as number_spec, expanded};
+ghost use Rattle.pom_grammar.specs.References.{digit_of as digit_spec, number_from, entities as entity_rows, named as named_spec, reference, numbered as number_spec, expanded};
 ghost use Rattle.pom_grammar.specs.Machine.{join};
 ghost use Rattle.pom_text.specs.Texts.{meaning_of, has_no_ampersand, number_meaning};
 
 use crate::characters::is_space;
-use crate::scans::{space_end, stands};
+use crate::scans::{is_at, space_end};
+use crate::tables::entity;
 use crate::texts::{push_char, push_plain};
+use case_table::Table;
 use pom_grammar::Encoding;
 use res_base::{NoMemory, Text};
 
@@ -17,12 +19,6 @@ use res_base::{NoMemory, Text};
 struct Found {
     len: usize,
     char: char,
-}
-
-fn means(len: usize, char: char) -> Option<Found>
-    ensures { result ≡ Some (record { len = len; char = char }) }
-{
-    Some(Found { len, char })
 }
 
 fn digit_of(hex: bool, byte: u8) -> Option<u32>
@@ -93,22 +89,46 @@ fn number(text: &[u8]) -> Option<Found>
     }
 }
 
+/// How long the longest name of an entity is.
+const LONGEST: usize = 4;
+
+/// The place of the first semicolon, if it may end an entity's name, and else one without.
+fn semicolon(text: &[u8]) -> usize
+    ensures within { result ≤ length text.now }
+    ensures first { (k : ℕ) → k < result → slice_index text.now k ≡ 59 → ⊥ }
+    ensures near { result < length text.now → (slice_index text.now result ≡ 59 → ⊥) → 4 < result }
+{
+    for i in 0..text.len() {
+        if LONGEST < i || text[i] == b';' {
+            return i;
+        }
+    }
+    text.len()
+}
+
+/// The named entity that begins behind a `&`.
+fn named(entities: &Table<char>, text: &[u8]) -> Option<Found>
+    requires { entities.now ≡ entity_rows }
+    ensures { meaning_of result ≡ named_spec text.now }
+{
+    let len = semicolon(text);
+    if !is_at(text, len, b';') {
+        return None;
+    }
+    match entity(entities, &text[..len]) {
+        Some(char) => Some(Found { len: len + 1, char }),
+        None => None,
+    }
+}
+
 /// The reference that begins behind a `&`.
-fn reference_at(text: &[u8]) -> Option<Found>
+fn reference_at(entities: &Table<char>, text: &[u8]) -> Option<Found>
+    requires { entities.now ≡ entity_rows }
     ensures { meaning_of result ≡ reference text.now }
 {
-    if stands(text, 0, b"lt;") {
-        means(3, '<')
-    } else if stands(text, 0, b"gt;") {
-        means(3, '>')
-    } else if stands(text, 0, b"amp;") {
-        means(4, '&')
-    } else if stands(text, 0, b"quot;") {
-        means(5, '"')
-    } else if stands(text, 0, b"apos;") {
-        means(5, '\'')
-    } else {
-        number(text)
+    match named(entities, text) {
+        Some(found) => Some(found),
+        None => number(text),
     }
 }
 
@@ -158,15 +178,21 @@ fn ampersand(run: &[u8], from: usize) -> usize
 }
 
 /// What stands at a `&`: its character, and the place behind it.
-fn add_reference(text: &mut Text, run: &[u8], at: usize) -> Result<usize, NoMemory>
+fn add_reference(
+    entities: &Table<char>,
+    text: &mut Text,
+    run: &[u8],
+    at: usize,
+) -> Result<usize, NoMemory>
     requires within { at < length run.now }
     requires is_ampersand { slice_index run.now at ≡ 38 }
+    requires table { entities.now ≡ entity_rows }
     ensures forth { IfOk result (λ next. at < next) }
     ensures past { IfOk result (λ next. next ≤ length run.now) }
     ensures is_text { IfOk result (λ next. (e : Encoding) → IsText e (drop at run.now) → IsText e (drop next run.now)) }
     ensures ok { IfOk result (λ next. (e : Encoding) → join text.old (expanded e (drop at run.now)) ≡ join text.new (expanded e (drop next run.now))) }
 {
-    match reference_at(&run[at + 1..]) {
+    match reference_at(entities, &run[at + 1..]) {
         Some(found) => {
             add_char(text, found.char)?;
             Ok(at + 1 + found.len)
@@ -179,8 +205,14 @@ fn add_reference(text: &mut Text, run: &[u8], at: usize) -> Result<usize, NoMemo
 }
 
 /// Puts a run of characters at the end, with its references put in.
-pub(crate) fn add_run(text: &mut Text, run: &[u8], encoding: Encoding) -> Result<(), NoMemory>
-    requires { IsText encoding run.now }
+pub(crate) fn add_run(
+    entities: &Table<char>,
+    text: &mut Text,
+    run: &[u8],
+    encoding: Encoding,
+) -> Result<(), NoMemory>
+    requires is_text { IsText encoding run.now }
+    requires table { entities.now ≡ entity_rows }
     ensures { OnOk result (text.new ≡ join text.old (expanded encoding run.now)) }
 {
     let mut i = 0;
@@ -189,7 +221,7 @@ pub(crate) fn add_run(text: &mut Text, run: &[u8], encoding: Encoding) -> Result
         add_plain(text, &run[i..next], encoding)?;
         i = next;
         if i < run.len() {
-            i = add_reference(text, run, i)?;
+            i = add_reference(entities, text, run, i)?;
         }
     }
     Ok(())
