@@ -1,2 +1,3 @@
 pub mod HexWords
+pub mod Joins
 pub mod Pieces

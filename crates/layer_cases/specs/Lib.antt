@@ -1,5 +1,11 @@
+pub mod Choices
 pub mod Coordinates
 pub mod Digests
+pub mod Exclusions
 pub mod HexWord
+pub mod Lookups
+pub mod Names
+pub mod Reasons
+pub mod Scopes
 pub mod Versions
 pub mod Words

@@ -3,7 +3,7 @@ ghost use Rattle.std.specs.Prelude.{◌≡◌};
 
 use hex::FromHexError;
 use res_base::NoMemory;
-use std::alloc::AllocError;
+use std::alloc::{AllocError, AllocFailed};
 
 /// Why a line has no answer.
 #[derive(Clone, Copy, Debug, PartialEq, Eq, Drop)]
@@ -39,6 +39,16 @@ impl From<AllocError> for CaseError {
     ghost from_gives = { λ _ e. e ≡ OutOfMemory };
 
     fn from(_: AllocError) -> CaseError {
+        CaseError::NoMemory
+    }
+}
+
+impl<T: Drop> From<AllocFailed<T>> for CaseError {
+    ghost use Rattle.layer_cases.specs.declared.case_error.CaseError.TheVariants.{NoMemory as OutOfMemory};
+
+    ghost from_gives = { λ _ e. e ≡ OutOfMemory };
+
+    fn from(_: AllocFailed<T>) -> CaseError {
         CaseError::NoMemory
     }
 }

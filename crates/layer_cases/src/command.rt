@@ -4,7 +4,7 @@ ghost use Rattle.layer_cases.specs.Words.{IsOneLine};
 
 use crate::case_error::CaseError;
 use crate::words::pieces_of;
-use crate::{coordinates, digests, intervals, versions};
+use crate::{choices, coordinates, digests, exclusions, intervals, lookups, scopes, versions};
 use std::alloc::{AllocError, Global};
 use std::str;
 
@@ -22,6 +22,13 @@ fn answer_words(alloc: Global, words: &[&str]) -> Result<String, CaseError> {
         "constraint" => versions::constraint(alloc, fields),
         "meet" => intervals::meet(alloc, fields),
         "holds" => intervals::holds(alloc, fields),
+        "kept" => scopes::kept(alloc, fields),
+        "excludes" => exclusions::excludes(alloc, fields),
+        "within" => exclusions::within(alloc, fields),
+        "antichain" => exclusions::antichain(alloc, fields),
+        "look" => lookups::look(alloc, fields),
+        "listing-at" => lookups::listing_at(alloc, fields),
+        "choose" => choices::choose(alloc, fields),
         _ => Err(CaseError::OutOfForm),
     }
 }

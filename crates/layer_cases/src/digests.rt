@@ -26,7 +26,8 @@ fn check_of(word: &str) -> Option<Check>
     }
 }
 
-fn digest_line(alloc: Global, digest: Digest) -> Result<String, AllocError>
+/// The hexadecimal digits of a digest.
+pub fn digest_line(alloc: Global, digest: Digest) -> Result<String, AllocError>
     ensures { IfOk result (λ line. string_bytes line ≡ encode_lower (digest_bytes digest)) }
 {
     match digest {

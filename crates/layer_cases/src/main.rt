@@ -9,12 +9,18 @@
 #![tactic(auto)]
 
 mod case_error;
+mod choices;
 mod command;
 mod coordinates;
 mod digests;
+mod exclusions;
 mod hex_word;
 mod intervals;
 mod lines;
+mod lookups;
+mod names;
+mod reasons;
+mod scopes;
 mod serve;
 mod versions;
 mod words;

@@ -1,12 +1,12 @@
 //! The words of a line.
-ghost use Rattle.std.specs.Prelude.{◌≡◌, ◌==◌, ◌<◌, ◌∷◌, [], map, length, IfOk, IfSome, MatchOption};
+ghost use Rattle.std.specs.Prelude.{◌≡◌, ◌==◌, ◌<◌, ◌∷◌, [], map, length, IfOk, IfSome, MatchOption, string_bytes};
 ghost use Rattle.std.specs.List.{slice_split};
-ghost use Rattle.layer_cases.specs.Words.{pieces_of as pieces_in, texts_of};
+ghost use Rattle.layer_cases.specs.Words.{joined as joined_texts, pieces_of as pieces_in, texts_of};
 
 use std::alloc::{AllocError, Global};
 
-/// What stands before and behind the first separator.
-fn split_first(text: &str, separator: char) -> Option<(&str, &str)>
+/// What stands before and behind the first separator, an ASCII character.
+pub fn split_first(text: &str, separator: char) -> Option<(&str, &str)>
     requires { separator < 128 }
     ensures parts { MatchOption result (pieces_in separator text.now ≡ text.now ∷ []) (λ parts. pieces_in separator text.now ≡ parts.0.now ∷ pieces_in separator parts.1.now) }
     ensures shorter { IfSome result (λ parts. length parts.1.now < length text.now) }
@@ -27,4 +27,11 @@ pub fn pieces_of(alloc: Global, text: &str, separator: char) -> Result<Vec<&str>
     }
     pieces.push(rest)?;
     Ok(pieces)
+}
+
+/// The words in order, with the separator between two.
+pub fn joined(alloc: Global, words: &[String], separator: &str) -> Result<String, AllocError>
+    ensures { IfOk result (λ line. string_bytes line ≡ joined_texts separator.now (map string_bytes words.now)) }
+{
+    words.join(alloc, separator)
 }
