@@ -1,0 +1,2 @@
+//! Texts with values in the places of names.
+#![tactic(auto)]
