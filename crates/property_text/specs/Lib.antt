@@ -1,4 +1,6 @@
 pub mod Filled
+pub mod Laws
+pub mod Progress
 pub mod Rows
 pub mod Segments
 pub mod Values

@@ -17,6 +17,10 @@ with_byte c [] = literal (c ∷ []) ∷ []
 with_byte c (literal text ∷ rest) = literal (c ∷ text) ∷ rest
 with_byte c (hole name ∷ rest) = literal (c ∷ []) ∷ hole name ∷ rest
 
+abbrev pub with_bytes : List ℕ → List Segment → List Segment
+with_bytes [] rest = rest
+with_bytes (c ∷ text) rest = with_byte c (with_bytes text rest)
+
 -- the bytes are `$`, 36, `{`, 123, and `}`, 125
 abbrev pub place_after : Place → ℕ → Place
 place_after outside c = if c == 36 then dollar else outside

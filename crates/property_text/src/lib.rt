@@ -1,2 +1,12 @@
-//! Texts with values in the places of names.
+//! Texts with values in the places of names, as the properties of a project are.
 #![tactic(auto)]
+
+mod fill;
+mod holes;
+mod laws;
+#[cfg(test)]
+mod tests;
+mod values;
+
+pub use laws::{cut_laws, fill_laws};
+pub use values::Values;

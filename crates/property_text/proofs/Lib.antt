@@ -1,0 +1,4 @@
+pub mod FillLemmas
+pub mod LawLemmas
+pub mod SegmentLemmas
+pub mod ValueLemmas
