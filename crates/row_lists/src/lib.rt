@@ -6,6 +6,8 @@ mod keyed;
 mod last;
 mod laws;
 mod table;
+#[cfg(test)]
+mod tests;
 
 pub use last::{joined, last_of_key};
 pub use laws::row_laws;
