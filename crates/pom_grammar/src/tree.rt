@@ -14,7 +14,7 @@ pub struct Tree {
 }
 
 /// Why a text is no document. Places are bytes from the start of the input.
-#[derive(Debug, Drop)]
+#[derive(Clone, Copy, Debug, PartialEq, Eq, Drop)]
 pub enum TextErr {
     /// The longest front of the input that begins some document has this length.
     BadText(u64),

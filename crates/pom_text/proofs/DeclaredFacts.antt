@@ -1,8 +1,7 @@
 -- How a declaration is read.
-use Rattle.std.proofs.Common.{◌≡◌, ℕ, inl, inr, ◌+◌, ◌<◌, ◌≤◌, Bool, true, false, cond, ◌&&◌, List, [], ◌∷◌, ◌++◌, length, drop, get_or, refl, sym, ◌∙◌, ap, arith, Option, Some, None}
+use Rattle.std.proofs.Common.{◌≡◌, ℕ, inl, inr, ◌+◌, ◌<◌, ◌≤◌, true, false, cond, ◌&&◌, List, [], ◌∷◌, ◌++◌, length, drop, get_or, refl, sym, ◌∙◌, ap, arith, Option, Some, None}
 use Rattle.std.specs.Prelude.{◌==◌, slice_range, Err, codes}
-use Rattle.std.specs.Char.{to_ascii_lowercase}
-use Rattle.std.proofs.lemmas.Bool.{and_parts, false≢true, eqb-true, eq-eqb, ne_eqb, cases_Bool, cases_lt}
+use Rattle.std.proofs.lemmas.Bool.{and_parts, false≢true, eqb-true, ne_eqb, cases_Bool, cases_lt}
 use Rattle.std.proofs.lemmas.List.{drop_more, drop_all, drop-drop}
 use Rattle.std.proofs.lemmas.List.Edits.{between_more}
 use Rattle.pom_grammar.specs.declared.encoding.Encoding.{Encoding}
@@ -11,54 +10,15 @@ use Rattle.pom_grammar.specs.declared.encoding.Seek.TheVariants.{Nothing}
 use Rattle.pom_grammar.specs.declared.tree.TextErr.TheVariants.{BadText}
 use Rattle.pom_grammar.specs.Characters.{is_space, begins_with, onto}
 use Rattle.pom_grammar.specs.Document.{Quote, question, backward, quote_byte}
-use Rattle.pom_grammar.specs.Declarations.{Found, seeking, naming, named, next_found, lowered, encoding_of, declares, declares_from, begins_space}
+use Rattle.pom_grammar.specs.Declarations.{seeking, naming, named, next_found, encoding_of, declares, declares_from, begins_space}
 use Rattle.pom_grammar.specs.Machine.{State, between, step, outcome}
-use Rattle.pom_grammar.specs.Heads.{Start, at_start, bracket, behind_question, behind_x, behind_m, behind_l, Telling, Reading, begin, mark_one, starting, in_declaration, in_body, nothing_told, next_telling, may_go_on, body_in, expected, after, so_far, as_body, body_reading, start_step}
+use Rattle.pom_grammar.specs.Heads.{Start, at_start, bracket, behind_question, behind_x, behind_m, behind_l, Telling, Reading, starting, in_declaration, in_body, nothing_told, next_telling, may_go_on, body_in, expected, after, so_far, as_body, body_reading}
 use Rattle.pom_grammar.proofs.Bytes.{onto_one}
 use Rattle.pom_grammar.proofs.Unknown.{declares_parts}
 use Rattle.pom_text.specs.DeclarationViews.{ends_question}
-use Rattle.pom_grammar.specs.Verdicts.{verdict, fault_at, ended, stepped, reading_verdict, unknown_from, unknown_behind, unless_unknown, whole_verdict, byte_order_mark, start_next, if_unknown}
+use Rattle.pom_grammar.specs.Verdicts.{verdict, fault_at, ended, stepped, reading_verdict, unknown_from, unknown_behind, unless_unknown}
 
--- names with their letters lowered
-pub begins_more : (name wanted : List ℕ) (k : ℕ) → k < length name → k < length wanted → get_or wanted k 0 ≡ to_ascii_lowercase (get_or name k 0) → begins_with (lowered (drop k name)) (drop k wanted) ≡ begins_with (lowered (drop (k + 1) name)) (drop (k + 1) wanted)
-begins_more name wanted k f g h =
-    ap (λ x. begins_with (lowered x) (drop k wanted)) (drop_more name k 0 f)
-    ∙ ap (begins_with (to_ascii_lowercase (get_or name k 0) ∷ lowered (drop (k + 1) name))) (drop_more wanted k 0 g)
-    ∙ ap (λ b. b && begins_with (lowered (drop (k + 1) name)) (drop (k + 1) wanted)) (eq-eqb (get_or wanted k 0) (to_ascii_lowercase (get_or name k 0)) h)
-
-pub begins_not : (name wanted : List ℕ) (k : ℕ) → k < length name → (k < length wanted → get_or wanted k 0 ≡ to_ascii_lowercase (get_or name k 0) → ⊥) → begins_with (lowered (drop k name)) (drop k wanted) ≡ false
-begins_not name wanted k f g =
-    ap (λ x. begins_with (lowered x) (drop k wanted)) (drop_more name k 0 f)
-    ∙ elim (cases_lt k (length wanted)) [
-      | inl here ↦
-          ap (begins_with (to_ascii_lowercase (get_or name k 0) ∷ lowered (drop (k + 1) name))) (drop_more wanted k 0 here)
-          ∙ ap (λ b. b && begins_with (lowered (drop (k + 1) name)) (drop (k + 1) wanted)) (ne_eqb (get_or wanted k 0) (to_ascii_lowercase (get_or name k 0)) (g here))
-      | inr past ↦ ap (begins_with (to_ascii_lowercase (get_or name k 0) ∷ lowered (drop (k + 1) name))) (drop_all k wanted past)
-    ]
-
-pub begins_all : (name wanted : List ℕ) (k : ℕ) → length name ≤ k → begins_with (lowered (drop k name)) (drop k wanted) ≡ true
-begins_all name wanted k h = ap (λ x. begins_with (lowered x) (drop k wanted)) (drop_all k name h)
-
-same_flip : (a b : ℕ) → (a == b) ≡ (b == a)
-same_flip a b = elim (cases_Bool (a == b)) [ inl is ↦ is ∙ sym (eq-eqb b a (sym (eqb-true a b is))) | inr other ↦ other ∙ sym (ne_eqb b a (λ f. false≢true (sym other ∙ eq-eqb a b (sym f)))) ]
-
--- an unknown encoding
-pub unknown_more : (bytes : List ℕ) (start then i : ℕ) (found next : Found) (question : Bool) → i < length bytes → (question && get_or bytes i 0 == 62) ≡ false → start_next found (get_or bytes i 0) i start ≡ then → next ≡ next_found found (get_or bytes i 0)
-    → unknown_from start found question (drop i bytes) i ≡ unknown_from then next (get_or bytes i 0 == 63) (drop (i + 1) bytes) (i + 1)
-unknown_more bytes start then i found next asked h f g k =
-    ap (λ x. unknown_from start found asked x i) (drop_more bytes i 0 h)
-    ∙ ap (λ b. cond b (if_unknown found start) (unknown_from (start_next found (get_or bytes i 0) i start) (next_found found (get_or bytes i 0)) (get_or bytes i 0 == 63) (drop (i + 1) bytes) (i + 1))) f
-    ∙ ap (λ n. unknown_from n (next_found found (get_or bytes i 0)) (get_or bytes i 0 == 63) (drop (i + 1) bytes) (i + 1)) g
-    ∙ ap (λ x. unknown_from then x (get_or bytes i 0 == 63) (drop (i + 1) bytes) (i + 1)) (sym k)
-
-pub unknown_ends : (bytes : List ℕ) (start i : ℕ) (found : Found) (question : Bool) → i < length bytes → (question && get_or bytes i 0 == 62) ≡ true → unknown_from start found question (drop i bytes) i ≡ if_unknown found start
-unknown_ends bytes start i found asked h f =
-    ap (λ x. unknown_from start found asked x i) (drop_more bytes i 0 h)
-    ∙ ap (λ b. cond b (if_unknown found start) (unknown_from (start_next found (get_or bytes i 0) i start) (next_found found (get_or bytes i 0)) (get_or bytes i 0 == 63) (drop (i + 1) bytes) (i + 1))) f
-
-pub unknown_past : (bytes : List ℕ) (start i : ℕ) (found : Found) (question : Bool) → length bytes ≤ i → unknown_from start found question (drop i bytes) i ≡ None
-unknown_past bytes start i found asked h = ap (λ x. unknown_from start found asked x i) (drop_all i bytes h)
-
+-- the value of the encoding goes on
 pub value_more : (bytes : List ℕ) (quote : Quote) (start at : ℕ) → start ≤ at → at < length bytes → (get_or bytes at 0 ≡ quote_byte quote → ⊥) → naming quote (slice_range bytes start (at + 1)) ≡ next_found (naming quote (slice_range bytes start at)) (get_or bytes at 0)
 value_more bytes quote start at h k f =
     ap (naming quote) (between_more bytes start at 0 h k)
@@ -199,54 +159,10 @@ begins_declares (c ∷ text) (a ∷ front) f =
     let both = and_parts (c == a) (begins_with front text) f in
     ap (λ b. b && declares_from front text) both.0 ∙ begins_declares text front both.1
 
-not_begins : (text : List ℕ) (front : List ℕ) → begins_with front text ≡ false → declares_from front text ≡ false
-not_begins text [] f = absurd (false≢true (sym f))
-not_begins [] (a ∷ front) f = refl
-not_begins (c ∷ text) (a ∷ front) f =
-    elim (cases_Bool (c == a)) [
-      | inl is ↦ ap (λ b. b && declares_from front text) is ∙ not_begins text front (sym (ap (λ b. b && begins_with front text) is) ∙ f)
-      | inr other ↦ ap (λ b. b && declares_from front text) other
-    ]
-
 space_behind : (bytes : List ℕ) (i : ℕ) → i < length bytes → begins_space (drop i bytes) ≡ is_space (get_or bytes i 0)
 space_behind bytes i h = ap begins_space (drop_more bytes i 0 h)
-
-pub declares_yes : (bytes : List ℕ) (at : ℕ) → begins_with (codes "<?xml") (drop at bytes) ≡ true → at + 5 < length bytes → is_space (get_or bytes (at + 5) 0) ≡ true → declares (drop at bytes) ≡ true
-declares_yes bytes at f h g = begins_declares (drop at bytes) (codes "<?xml") f ∙ ap begins_space (drop-drop 5 at bytes) ∙ space_behind bytes (at + 5) h ∙ g
 
 pub declares_no : (bytes : List ℕ) (at : ℕ) → begins_with (codes "<?xml") (drop at bytes) ≡ true → (at + 5 < length bytes → is_space (get_or bytes (at + 5) 0) ≡ false) → declares (drop at bytes) ≡ false
 declares_no bytes at f g =
     begins_declares (drop at bytes) (codes "<?xml") f ∙ ap begins_space (drop-drop 5 at bytes)
     ∙ elim (cases_lt (at + 5) (length bytes)) [ inl here ↦ space_behind bytes (at + 5) here ∙ g here | inr past ↦ ap begins_space (drop_all (at + 5) bytes past) ]
-
-pub declares_not : (bytes : List ℕ) (at : ℕ) → begins_with (codes "<?xml") (drop at bytes) ≡ false → declares (drop at bytes) ≡ false
-declares_not bytes at f = not_begins (drop at bytes) (codes "<?xml") f
-
--- the byte-order mark
-no_mark : (bytes : List ℕ) → (0 < length bytes → get_or bytes 0 0 ≡ 239 → ⊥) → (begins_with byte_order_mark bytes ≡ false) × (reading_verdict begin bytes 0 ≡ reading_verdict (starting at_start) bytes 0)
-no_mark [] f = (refl, refl)
-no_mark (c ∷ bytes) f =
-    let other : (c == 239) ≡ false = ne_eqb c 239 (f (omega arith)) in
-    (ap (λ b. b && begins_with (187 ∷ (191 ∷ [])) bytes) other, ap (λ b. stepped (cond b (Some mark_one) (start_step at_start c)) (BadText 0) (λ t. reading_verdict t bytes 1)) other)
-
-pub unmarked_verdict : (bytes : List ℕ) → (0 < length bytes → get_or bytes 0 0 ≡ 239 → ⊥) → whole_verdict bytes ≡ unless_unknown (unknown_behind 0 (drop 0 bytes)) (reading_verdict (starting at_start) (drop 0 bytes) 0)
-unmarked_verdict bytes f =
-    let both = no_mark bytes f in
-    ap (λ b. unless_unknown (cond b (unknown_behind 3 (drop 3 bytes)) (unknown_behind 0 bytes)) (reading_verdict begin bytes 0)) both.0 ∙ ap (unless_unknown (unknown_behind 0 bytes)) both.1
-
-pub marked_verdict_is : (bytes : List ℕ) → 2 < length bytes → get_or bytes 0 0 ≡ 239 → get_or bytes 1 0 ≡ 187 → get_or bytes 2 0 ≡ 191 → whole_verdict bytes ≡ unless_unknown (unknown_behind 3 (drop 3 bytes)) (reading_verdict (starting at_start) (drop 3 bytes) 3)
-marked_verdict_is [] h f g k = absurd (omega (arith, h))
-marked_verdict_is (a ∷ []) h f g k = absurd (omega (arith, h))
-marked_verdict_is (a ∷ (b ∷ [])) h f g k = absurd (omega (arith, h))
-marked_verdict_is (a ∷ (b ∷ (c ∷ bytes))) h f g k = rw (f, g, k) refl
-
-pub mark_cut : (bytes : List ℕ) → 0 < length bytes → get_or bytes 0 0 ≡ 239 → (1 < length bytes → get_or bytes 1 0 ≡ 187 → ⊥) → whole_verdict bytes ≡ Err (BadText 1)
-mark_cut [] h f g = absurd (omega (arith, h))
-mark_cut (a ∷ []) h f g = rw f refl
-mark_cut (a ∷ (b ∷ bytes)) h f g = rw (f, ne_eqb b 187 (g (omega arith))) refl
-
-pub mark_cut_last : (bytes : List ℕ) → 1 < length bytes → get_or bytes 0 0 ≡ 239 → get_or bytes 1 0 ≡ 187 → (2 < length bytes → get_or bytes 2 0 ≡ 191 → ⊥) → whole_verdict bytes ≡ Err (BadText 2)
-mark_cut_last [] h f g l = absurd (omega (arith, h))
-mark_cut_last (a ∷ []) h f g l = absurd (omega (arith, h))
-mark_cut_last (a ∷ (b ∷ [])) h f g l = rw (f, g) refl
-mark_cut_last (a ∷ (b ∷ (c ∷ bytes))) h f g l = rw (f, g, ne_eqb c 191 (l (omega arith))) refl

@@ -15,8 +15,8 @@ use Rattle.pom_grammar.specs.Machine.{Frame, Kind, in_run, in_name, in_label, in
 use Rattle.pom_grammar.specs.Verdicts.{verdict, stepped}
 use Rattle.pom_grammar.proofs.Bytes.{tails_more, tails_one}
 use Rattle.pom_grammar.proofs.Lives.{apart, ascii_next}
-use Rattle.pom_text.specs.Scans.{Goes, Faults, Runs, Breaks, MarkRun, sign_of, least_of, leading, marked_verdict, cdata_state, IsNaming}
-use Rattle.pom_text.proofs.Runs.{goes_step, stops_with, ends_bad, onto_append, slice_join}
+use Rattle.pom_text.specs.Scans.{Faults, Runs, Breaks, MarkRun, sign_of, least_of, leading, marked_verdict, cdata_state, IsNaming}
+use Rattle.pom_text.proofs.Runs.{goes_step, onto_append, slice_join}
 
 pub naming_quiet : (kind : Kind) (c : ℕ) → IsNaming kind → is_name_byte c ≡ true → (seen : List ℕ) → stops kind seen c ≡ false
 naming_quiet in_run c f g seen = absurd f
@@ -73,11 +73,6 @@ some_leading sign [] seen f g h = absurd (omega (arith, h))
 some_leading sign (c ∷ text) seen f g h =
     let both = and_parts (is_high c) (every is_high text) g in
     no_leading sign text (c ∷ seen) f both.1 (ap (λ b. cond b (leading sign seen + 1) 0) (apart is_high c sign both.0 f))
-
-low_sign : (mark : Mark) → is_high (sign_of mark) ≡ false
-low_sign dashes = refl
-low_sign question = refl
-low_sign brackets = refl
 
 module _ (e : Encoding) (bytes : List ℕ) (sign least : ℕ) where
   pub mark_start : (i : ℕ) → i ≤ length bytes → MarkRun e bytes sign least i i 0
@@ -170,32 +165,7 @@ cdata_goes : (e : Encoding) (b : ℕ) (left : List ℕ) (frame : Frame) (outer :
 cdata_goes e b [] frame outer = rw (eq-eqb b b refl) refl
 cdata_goes e b (d ∷ left) frame outer = rw (eq-eqb b b refl) refl
 
-cdata_none : (e : Encoding) (b c : ℕ) (left : List ℕ) (frame : Frame) (outer : Place) → (c ≡ b → ⊥) → step e (cdata_state (b ∷ left) frame outer) c ≡ None
-cdata_none e b c [] frame outer f = rw (ne_eqb c b f) refl
-cdata_none e b c (d ∷ left) frame outer f = rw (ne_eqb c b f) refl
-
-pub literal_more : (e : Encoding) (bytes literal : List ℕ) (k i : ℕ) (frame : Frame) (outer : Place) → k < length literal → i < length bytes → get_or bytes i 0 ≡ get_or literal k 0 → Goes e bytes (cdata_state (drop k literal) frame outer) i (cdata_state (drop (k + 1) literal) frame outer) (i + 1)
-literal_more e bytes literal k i frame outer f g h =
-    ap (λ x. verdict e (cdata_state x frame outer) (drop i bytes) i) (drop_more literal k 0 f)
-    ∙ goes_step e bytes (cdata_state (get_or literal k 0 ∷ drop (k + 1) literal) frame outer) (cdata_state (drop (k + 1) literal) frame outer) i g
-    (ap (step e (cdata_state (get_or literal k 0 ∷ drop (k + 1) literal) frame outer)) h ∙ cdata_goes e (get_or literal k 0) (drop (k + 1) literal) frame outer)
-
-pub literal_stops : (e : Encoding) (bytes literal : List ℕ) (k i : ℕ) (frame : Frame) (outer : Place) → k < length literal → i < length bytes → (get_or bytes i 0 ≡ get_or literal k 0 → ⊥) → Faults e bytes (cdata_state (drop k literal) frame outer) i (BadText i)
-literal_stops e bytes literal k i frame outer f g h =
-    ap (λ x. verdict e (cdata_state x frame outer) (drop i bytes) i) (drop_more literal k 0 f)
-    ∙ stops_with e bytes (cdata_state (get_or literal k 0 ∷ drop (k + 1) literal) frame outer) (BadText i) i g (cdata_none e (get_or literal k 0) (get_or bytes i 0) (drop (k + 1) literal) frame outer h) refl
-
-pub literal_ends : (e : Encoding) (bytes literal : List ℕ) (k i : ℕ) (frame : Frame) (outer : Place) → k < length literal → length bytes ≤ i → Faults e bytes (cdata_state (drop k literal) frame outer) i (BadText i)
-literal_ends e bytes literal k i frame outer f g =
-    ap (λ x. verdict e (cdata_state x frame outer) (drop i bytes) i) (drop_more literal k 0 f) ∙ ends_bad e bytes (cdata_state (get_or literal k 0 ∷ drop (k + 1) literal) frame outer) i g refl
-
 -- whether a literal stands somewhere
-pub stands_more : (bytes literal : List ℕ) (k i : ℕ) → k < length literal → i < length bytes → get_or bytes i 0 ≡ get_or literal k 0 → begins_with (drop k literal) (drop i bytes) ≡ begins_with (drop (k + 1) literal) (drop (i + 1) bytes)
-stands_more bytes literal k i f g h =
-    ap (λ x. begins_with x (drop i bytes)) (drop_more literal k 0 f)
-    ∙ ap (λ x. begins_with (get_or literal k 0 ∷ drop (k + 1) literal) x) (drop_more bytes i 0 g)
-    ∙ ap (λ b. b && begins_with (drop (k + 1) literal) (drop (i + 1) bytes)) (eq-eqb (get_or bytes i 0) (get_or literal k 0) h)
-
 pub stands_not : (bytes literal : List ℕ) (k i : ℕ) → k < length literal → i < length bytes → (get_or bytes i 0 ≡ get_or literal k 0 → ⊥) → begins_with (drop k literal) (drop i bytes) ≡ false
 stands_not bytes literal k i f g h =
     ap (λ x. begins_with x (drop i bytes)) (drop_more literal k 0 f)

@@ -173,15 +173,8 @@ module _ (e : Encoding) (bytes : List ℕ) where
   pub partial_ends : (kind : Kind) (i j : ℕ) (tail : Tail) → length bytes ≤ j → Partial e bytes kind i j tail → Breaks e bytes kind i (BadText j)
   partial_ends kind i j tail h partial = λ place seen. partial.goes place seen ∙ ends_bad (in_segment kind place (onto (slice_range bytes i j) seen) tail) j h refl
 
-pub spaces_none : (bytes : List ℕ) (i : ℕ) → every is_space (slice_range bytes i i) ≡ true
-spaces_none bytes i = ap (every is_space) (between_none bytes i)
-
 pub spaces_more : (bytes : List ℕ) (at i : ℕ) → at ≤ i → i < length bytes → every is_space (slice_range bytes at i) ≡ true → is_space (get_or bytes i 0) ≡ true → every is_space (slice_range bytes at (i + 1)) ≡ true
 spaces_more bytes at i f h g k = ap (every is_space) (between_more bytes at i 0 f h) ∙ every_one is_space (slice_range bytes at i) (get_or bytes i 0) g k
-
-pub not_false : (b : Bool) → not b ≡ false → b ≡ true
-not_false true f = refl
-not_false false f = absurd (false≢true (sym f))
 
 pub not_true : (b : Bool) → not b ≡ true → b ≡ false
 not_true true f = absurd (false≢true f)

@@ -207,10 +207,6 @@ pub nest_one : (place : Place) (frames : List Opened) (frame : Opened) → nest 
 nest_one place [] frame = refl
 nest_one place (f ∷ frames) frame = nest_one (within (frame_view f) place) frames frame
 
-pub depth_nest : (place : Place) (frames : List Opened) → depth (nest place frames) ≡ depth place + length frames
-depth_nest place [] = omega arith
-depth_nest place (f ∷ frames) = depth_nest (within (frame_view f) place) frames ∙ omega arith
-
 eq_next : (a : ℕ) → (a == 63) ≡ (suc a + 0 == 64)
 eq_next a =
     elim (cases_Bool (a == 63)) [

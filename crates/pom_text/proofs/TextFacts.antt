@@ -108,10 +108,6 @@ pub join_join : (text a b : List ℕ) → join (join text a) b ≡ join text (a 
 join_join [] a b = join_skips a b
 join_join (c ∷ text) a b = ap (λ x. c ∷ x) (append_assoc text a b)
 
-pub join_none : (text : List ℕ) → join text [] ≡ text
-join_none [] = refl
-join_none (c ∷ text) = ap (λ x. c ∷ x) (append-nil text)
-
 -- references
 pub expanded_skip : (e : Encoding) (n : ℕ) (text : List ℕ) → expanded_from e n text ≡ expanded e (drop n text)
 expanded_skip e zero text = refl
@@ -166,14 +162,6 @@ pub join_char : (text : List ℕ) (c : ℕ) → (text ≡ [] → is_space c ≡ 
 join_char [] c f = ap skip_space (sym (append-nil (encode c))) ∙ encode_skip c [] (f refl) ∙ append-nil (encode c)
 join_char (d ∷ text) c f = refl
 
-pub join_some : (text more : List ℕ) → (text ≡ [] → ⊥) → join text more ≡ text ++ more
-join_some [] more f = absurd (f refl)
-join_some (d ∷ text) more f = refl
-
-pub join_space : (text : List ℕ) (c : ℕ) → text ≡ [] → is_space c ≡ true → text ≡ join text (encode_utf8 c)
-join_space text c f g =
-    f ∙ sym (ap (λ t. join t (encode_utf8 c)) f ∙ ap skip_space (encode_ascii c (space_low c g)) ∙ ap (λ b. cond b [] (c ∷ [])) g)
-
 -- numbers
 pub number_big : (hex some : Bool) (len value : ℕ) (text : List ℕ) → 1114112 ≤ value → number_from hex some len value text ≡ none
 number_big hex some len value [] h = refl
@@ -208,9 +196,6 @@ number_step hex some len value digit base then c text f g h =
 -- what a reference has: its last byte is a semicolon
 abbrev pub Ends : List ℕ → ℕ → Type 0
 Ends text len = (k : ℕ) × (len ≡ k + 1) × (k < length text) × (get_or text k 0 ≡ 59)
-
-means_parts : (m n : ℕ) (a b : ℕ) → ◌≡◌ {A = Meaning} (means m a) (means n b) → m ≡ n
-means_parts m n a b f = ap length_of f
 
 number_ends : (hex some : Bool) (len value : ℕ) (text : List ℕ) (n char : ℕ) → number_from hex some len value text ≡ means n char → (k : ℕ) × (n ≡ len + (k + 1)) × (k < length text) × (get_or text k 0 ≡ 59)
 number_ends hex some len value [] n char f = let no : ⊥ = cc in absurd no
@@ -347,9 +332,6 @@ run_expands e run text then i next h f k =
     ∙ ap (join text) (expanded_plain e (slice_range run i next) (drop next run) f)
     ∙ sym (join_join text (utf8_of e (slice_range run i next)) (expanded e (drop next run)))
     ∙ ap (λ t. join t (expanded e (drop next run))) (sym k)
-
-pub nothing_expands : (e : Encoding) (run text : List ℕ) (i : ℕ) → length run ≤ i → join text (expanded e (drop i run)) ≡ text
-nothing_expands e run text i h = ap (λ x. join text (expanded e x)) (drop_all i run h) ∙ join_none text
 
 -- the local name is a text: what stands behind an ASCII byte, or the whole
 pub local_text : (e : Encoding) (whole front name : List ℕ) → IsText e whole → whole ≡ front ++ name → IsText e (local_from whole name)

@@ -11,6 +11,8 @@ mod references;
 mod scans;
 mod tables;
 mod tags;
+#[cfg(test)]
+mod tests;
 mod texts;
 mod tree;
 
