@@ -2,10 +2,13 @@ pub mod Choices
 pub mod Coordinates
 pub mod Digests
 pub mod Exclusions
+pub mod Faults
 pub mod HexWord
 pub mod Lookups
 pub mod Names
+pub mod Poms
 pub mod Reasons
 pub mod Scopes
+pub mod Trees
 pub mod Versions
 pub mod Words

@@ -4,7 +4,9 @@ ghost use Rattle.layer_cases.specs.Words.{IsOneLine};
 
 use crate::case_error::CaseError;
 use crate::words::pieces_of;
-use crate::{choices, coordinates, digests, exclusions, intervals, lookups, scopes, versions};
+use crate::{
+    choices, coordinates, digests, exclusions, intervals, lookups, poms, scopes, trees, versions,
+};
 use std::alloc::{AllocError, Global};
 use std::str;
 
@@ -16,6 +18,9 @@ fn answer_words(alloc: Global, words: &[&str]) -> Result<String, CaseError> {
         "coord" => coordinates::coord(alloc, fields),
         "plain" => coordinates::plain(alloc, fields),
         "paths" => coordinates::paths(alloc, fields),
+        "tree" => trees::tree(alloc, fields),
+        "pom" => poms::pom(alloc, fields),
+        "listing" => poms::listing(alloc, fields),
         "digest" => digests::digest(alloc, fields),
         "sums" => digests::sums(alloc, fields),
         "version" => versions::version(alloc, fields),

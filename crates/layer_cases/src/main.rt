@@ -19,9 +19,11 @@ mod intervals;
 mod lines;
 mod lookups;
 mod names;
+mod poms;
 mod reasons;
 mod scopes;
 mod serve;
+mod trees;
 mod versions;
 mod words;
 

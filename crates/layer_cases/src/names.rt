@@ -87,12 +87,21 @@ pub fn set_of(alloc: Global, word: &str) -> Result<ExclSet, CaseError>
     })
 }
 
-fn rule_word(alloc: Global, rule: &Exclusion) -> Result<String, AllocError>
+pub fn rule_word(alloc: Global, rule: &Exclusion) -> Result<String, AllocError>
     ensures { IfOk result (λ word. string_bytes word ≡ rule_word_of rule.now) }
 {
     let org = hex_word(alloc, rule.org.as_bytes())?;
     let name = hex_word(alloc, rule.name.as_bytes())?;
     format!(in alloc; "{org}:{name}")
+}
+
+pub fn coord_word(alloc: Global, coord: &Coord) -> Result<String, AllocError>
+    ensures { IfOk result (λ word. string_bytes word ≡ coord_word_of coord.now) }
+{
+    let org = hex_word(alloc, coord.module.org.as_bytes())?;
+    let name = hex_word(alloc, coord.module.name.as_bytes())?;
+    let version = hex_word(alloc, coord.version.as_bytes())?;
+    format!(in alloc; "{org}:{name}:{version}")
 }
 
 pub fn set_word(alloc: Global, set: &ExclSet) -> Result<String, AllocError>

@@ -1,0 +1,4 @@
+use Rattle.layer_cases.proofs.poms.listing.Given as goal
+
+abbrev pub ghosts-listing_counted : goal.ghosts-listing_counted
+ghosts-listing_counted a = record { name = a.blank.name; parts = a.blank.parts }
