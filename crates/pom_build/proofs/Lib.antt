@@ -1,0 +1,4 @@
+pub mod BuildGrows
+pub mod BuildReads
+pub mod Climbing
+pub mod Valued

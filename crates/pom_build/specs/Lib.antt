@@ -1,0 +1,12 @@
+pub mod Climbs
+pub mod Effectives
+pub mod Filling
+pub mod Gathers
+pub mod Imports
+pub mod Lines
+pub mod Names
+pub mod Outcomes
+pub mod Projects
+pub mod Puts
+pub mod Reads
+pub mod Rows

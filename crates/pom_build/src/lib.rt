@@ -1,0 +1,17 @@
+//! The effective project: what a project and its parents say, with names filled in, and with the
+//! rows that are managed by them and by what they import.
+#![tactic(auto)]
+
+mod build;
+mod effectives;
+mod filled;
+mod gather;
+mod imports;
+mod laws;
+mod line;
+mod names;
+mod outcome;
+
+pub use build::{Build, BuildFault, Effective};
+pub use effectives::effective;
+pub use laws::build_laws;
