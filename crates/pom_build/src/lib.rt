@@ -14,4 +14,4 @@ mod outcome;
 
 pub use build::{Build, BuildFault, Effective};
 pub use effectives::effective;
-pub use laws::build_laws;
+pub use laws::{build_laws, read_laws};
