@@ -51,8 +51,8 @@ module _ (known other : Known) where
   look_from-same path (suc left) repo h why =
       ap (λ reading. at_repo (key_of repo roles.Pom path) reading (λ reason. look_from other path (repo + 1) left (why ++ reason ∷ []))) h.0
       ∙ reading-same (key_of repo roles.Pom path) (known (key_of repo roles.Pom path)) (keys_from known path (repo + 1) left)
-          (λ reason. look_from known path (repo + 1) left (why ++ reason ∷ [])) (λ reason. look_from other path (repo + 1) left (why ++ reason ∷ []))
-          (λ later reason. look_from-same path left (repo + 1) later (why ++ reason ∷ [])) h.1
+      (λ reason. look_from known path (repo + 1) left (why ++ reason ∷ [])) (λ reason. look_from other path (repo + 1) left (why ++ reason ∷ []))
+      (λ later reason. look_from-same path left (repo + 1) later (why ++ reason ∷ [])) h.1
 
   look-same : (repos : ℕ) (c : Coord) → Agree known other (look_keys known repos c) → look_of other repos c ≡ look_of known repos c
   look-same repos c = by (is_plain_coord c) refl
@@ -100,7 +100,7 @@ module _ (known other : Known) where
         (λ here.
         ap (λ looked. on_look looked line c (line_from other repos left)) (look-same repos c (front (look_keys known repos c) _ here))
         ∙ on_look-same (look_of known repos c) _ line c (line_from known repos left) (line_from other repos left)
-            (λ repo pom more. line_from-same left (with_parent line (project_of c repo pom)) pom.parent more) (back (look_keys known repos c) _ here))
+        (λ repo pom more. line_from-same left (with_parent line (project_of c repo pom)) pom.parent more) (back (look_keys known repos c) _ here))
         agree)
         h
 
@@ -109,7 +109,7 @@ module _ (known other : Known) where
     line-same c h =
         ap (λ looked. started looked c (line_from other repos 31)) (look-same repos c (front (look_keys known repos c) _ h))
         ∙ started-same (look_of known repos c) _ c (line_from known repos 31) (line_from other repos 31)
-            (λ repo pom more. line_from-same 31 (record { own = project_of c repo pom; parents = [] }) pom.parent more) (back (look_keys known repos c) _ h)
+        (λ repo pom more. line_from-same 31 (record { own = project_of c repo pom; parents = [] }) pom.parent more) (back (look_keys known repos c) _ h)
 
     -- imports
 
@@ -147,9 +147,9 @@ module _ (known other : Known) where
         (λ here.
         ap (λ line. and_then (imported c line) (managed_with (managed_from other repos left (chain ++ c ∷ [])))) (line-same c (front (line_keys known repos c) _ here))
         ∙ on_imported-same (managed_keys known repos left (chain ++ c ∷ [])) c (line_of known repos c)
-            (managed_with (managed_from known repos left (chain ++ c ∷ []))) (managed_with (managed_from other repos left (chain ++ c ∷ [])))
-            (managed_with-same (managed_keys known repos left (chain ++ c ∷ [])) (managed_from known repos left (chain ++ c ∷ [])) (managed_from other repos left (chain ++ c ∷ [])) (managed_from-same left (chain ++ c ∷ [])))
-            (back (line_keys known repos c) _ here))
+        (managed_with (managed_from known repos left (chain ++ c ∷ []))) (managed_with (managed_from other repos left (chain ++ c ∷ [])))
+        (managed_with-same (managed_keys known repos left (chain ++ c ∷ [])) (managed_from known repos left (chain ++ c ∷ [])) (managed_from other repos left (chain ++ c ∷ [])) (managed_from-same left (chain ++ c ∷ [])))
+        (back (line_keys known repos c) _ here))
         h
 
     abbrev rest : Known → Coord → Line → Outcome Effective
@@ -160,8 +160,8 @@ module _ (known other : Known) where
     effective-same c h =
         ap (λ line. build_of (and_then line (rest other c))) (line-same c (front (line_keys known repos c) _ h))
         ∙ ap build_of
-            (on_line-same (managed_keys known repos 31 (c ∷ [])) (line_of known repos c) (rest known c) (rest other c)
-              (λ line more.
-              ap (λ managed. and_then managed (λ rows. Built (effective_in line rows)))
-              (managed_with-same (managed_keys known repos 31 (c ∷ [])) (managed_from known repos 31 (c ∷ [])) (managed_from other repos 31 (c ∷ [])) (managed_from-same 31 (c ∷ [])) line more))
-              (back (line_keys known repos c) _ h))
+        (on_line-same (managed_keys known repos 31 (c ∷ [])) (line_of known repos c) (rest known c) (rest other c)
+        (λ line more.
+        ap (λ managed. and_then managed (λ rows. Built (effective_in line rows)))
+        (managed_with-same (managed_keys known repos 31 (c ∷ [])) (managed_from known repos 31 (c ∷ [])) (managed_from other repos 31 (c ∷ [])) (managed_from-same 31 (c ∷ [])) line more))
+        (back (line_keys known repos c) _ h))

@@ -11,6 +11,8 @@ mod laws;
 mod line;
 mod names;
 mod outcome;
+#[cfg(test)]
+mod tests;
 
 pub use build::{Build, BuildFault, Effective};
 pub use effectives::effective;
