@@ -1,6 +1,7 @@
 pub mod Choices
 pub mod Coordinates
 pub mod Digests
+pub mod Effectives
 pub mod Exclusions
 pub mod Faults
 pub mod HexWord

@@ -5,7 +5,8 @@ ghost use Rattle.layer_cases.specs.Words.{IsOneLine};
 use crate::case_error::CaseError;
 use crate::words::pieces_of;
 use crate::{
-    choices, coordinates, digests, exclusions, intervals, lookups, poms, scopes, trees, versions,
+    choices, coordinates, digests, effectives, exclusions, intervals, lookups, poms, scopes, trees,
+    versions,
 };
 use std::alloc::{AllocError, Global};
 use std::str;
@@ -34,6 +35,7 @@ fn answer_words(alloc: Global, words: &[&str]) -> Result<String, CaseError> {
         "look" => lookups::look(alloc, fields),
         "listing-at" => lookups::listing_at(alloc, fields),
         "choose" => choices::choose(alloc, fields),
+        "effective" => effectives::effective(alloc, fields),
         _ => Err(CaseError::OutOfForm),
     }
 }

@@ -26,7 +26,8 @@ use res_base::{
 };
 use std::alloc::{AllocError, Global};
 
-fn number_of(alloc: Global, word: &str) -> Result<u32, CaseError>
+/// A decimal number without leading zeros.
+pub fn number_of(alloc: Global, word: &str) -> Result<u32, CaseError>
     ensures { IfOk result (λ number. decimal number ≡ word.now) }
 {
     let Ok(number) = word.parse::<u32>() else {
@@ -97,7 +98,7 @@ fn listing_reading(alloc: Global, kind: &str) -> Result<Reading, CaseError>
 
 /// Puts in what is known of a key. A repository that there is not, and a key that was known, are
 /// out of form.
-fn put(known: &mut Known, key: FileKey, reading: Reading) -> Result<(), CaseError>
+pub fn put(known: &mut Known, key: FileKey, reading: Reading) -> Result<(), CaseError>
     requires { stands_at reading key.role ≡ true }
     ensures { known.new.repos ≡ known.old.repos }
 {

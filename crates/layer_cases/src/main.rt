@@ -13,6 +13,7 @@ mod choices;
 mod command;
 mod coordinates;
 mod digests;
+mod effectives;
 mod exclusions;
 mod hex_word;
 mod intervals;

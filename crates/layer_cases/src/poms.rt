@@ -127,7 +127,8 @@ fn push_properties(
     Ok(())
 }
 
-fn field_word(alloc: Global, label: &str, text: &Text) -> Result<String, AllocError>
+/// A text behind its label.
+pub fn field_word(alloc: Global, label: &str, text: &Text) -> Result<String, AllocError>
     ensures { IfOk result (λ word. string_bytes word ≡ field_word_of label.now text.now) }
 {
     let text = hex_word(alloc, text.as_bytes())?;
