@@ -82,7 +82,7 @@ module _ (known other : Known) where
   on_parent-same None keys line k l ih h = refl
   on_parent-same (Some c) keys line k l ih h = ih c h
 
-  unless_met-same : {A : Type 0} (met : Bool) (fault : BuildFault) (keys : List FileKey) (c : Coord) (k l : Coord → Outcome A) → (Agree known other keys → l c ≡ k c) → Agree known other (unless_seen met keys)
+  unless_met-same : {A : Type 0} (met : Bool) (fault : BuildFault) (keys : Coord → List FileKey) (c : Coord) (k l : Coord → Outcome A) → (Agree known other (keys c) → l c ≡ k c) → Agree known other (unless_seen met keys c)
       → unless_met met fault l c ≡ unless_met met fault k c
   unless_met-same true fault keys c k l ih h = refl
   unless_met-same false fault keys c k l ih h = ih h

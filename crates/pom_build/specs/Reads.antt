@@ -51,15 +51,15 @@ of_next None further = []
 of_next (Some c) further = further c
 
 -- a coordinate that was met before is not looked up
-abbrev pub unless_seen : Bool → List FileKey → List FileKey
-unless_seen true keys = []
-unless_seen false keys = keys
+abbrev pub unless_seen : Bool → (Coord → List FileKey) → Coord → List FileKey
+unless_seen true keys c = []
+unless_seen false keys c = keys c
 
 -- the keys of the parents behind a line, of which so many may be looked up
 abbrev pub parent_keys : Known → ℕ → ℕ → Line → Option Coord → List FileKey
 parent_keys known repos zero line next = []
 parent_keys known repos (suc left) line next =
-    of_next next (λ c. unless_seen (is_on c line) (look_keys known repos c ++ behind_look (look_of known repos c) (λ repo pom. parent_keys known repos left (with_parent line (project_of c repo pom)) pom.parent)))
+    of_next next (λ c. unless_seen (is_on c line) (λ parent. look_keys known repos parent ++ behind_look (look_of known repos parent) (λ repo pom. parent_keys known repos left (with_parent line (project_of parent repo pom)) pom.parent)) c)
 
 -- the keys of a line: those of its look-ups
 abbrev pub line_keys : Known → ℕ → Coord → List FileKey
@@ -81,7 +81,7 @@ import_keys keys (Refused fault) = []
 abbrev pub managed_keys : Known → ℕ → ℕ → List Coord → Coord → List FileKey
 managed_keys known repos zero chain c = []
 managed_keys known repos (suc left) chain c =
-    unless_seen (is_among c chain) (line_keys known repos c ++ import_keys (managed_keys known repos left (chain ++ c ∷ [])) (line_of known repos c))
+    unless_seen (is_among c chain) (λ one. line_keys known repos one ++ import_keys (managed_keys known repos left (chain ++ one ∷ [])) (line_of known repos one)) c
 
 -- all keys that are looked at to build a project
 abbrev pub effective_keys : Known → ℕ → Coord → List FileKey

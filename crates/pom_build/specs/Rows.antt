@@ -17,6 +17,7 @@ use Rattle.pom_build.specs.Effectives.{effective_of, filled_deps}
 use Rattle.pom_build.specs.Imports.{managed_rows}
 use Rattle.pom_build.specs.Lines.{line_of}
 use Rattle.pom_build.specs.Names.{fill_in}
+use Rattle.pom_build.specs.Reads.{effective_keys}
 use Rattle.pom_build.specs.declared.build.Build.{Build}
 use Rattle.pom_build.specs.declared.build.Build.TheVariants.{Built, Needs, NotFound, Refused}
 use Rattle.pom_build.specs.declared.build.BuildFault.TheVariants.{ImportCycle, LineAbsent, ParentCycle, TooDeep}
@@ -256,3 +257,15 @@ closed_chain = imports (numbered 32) (bom (numbered 7) one ∷ []) ∷ imports_f
 pub chain_in_a_circle : over closed_chain (numbered 1) ≡ Refused (ImportCycle (path_from 32 1 ++ x (numbered 7) ∷ []))
 unfolding filled fill_in line_of managed_rows filled_deps effective_of
 chain_in_a_circle = refl
+
+-- a project that the chain has is not looked up again
+abbrev circle : List (FileKey × Reading)
+circle =
+    imports (codes "k") (bom (codes "i") one ∷ bom (codes "j") one ∷ [])
+    ∷ imports (codes "i") (bom (codes "j") one ∷ bom (codes "k") one ∷ [])
+    ∷ imports (codes "j") (bom (codes "i") one ∷ bom (codes "k") one ∷ [])
+    ∷ []
+
+pub keys_of_a_circle : effective_keys (known_of circle) 1 (x (codes "k")) ≡ key (codes "k") ∷ key (codes "i") ∷ key (codes "j") ∷ key (codes "j") ∷ key (codes "i") ∷ []
+unfolding filled fill_in line_of managed_rows filled_deps effective_of
+keys_of_a_circle = refl
