@@ -1,0 +1,92 @@
+-- Names for single bytes of ASCII.
+use Rattle.std.specs.Prelude.{ℕ}
+
+abbrev pub tab : ℕ
+tab = 9
+
+abbrev pub line_feed : ℕ
+line_feed = 10
+
+abbrev pub carriage_return : ℕ
+carriage_return = 13
+
+abbrev pub space : ℕ
+space = 32
+
+abbrev pub exclamation_mark : ℕ
+exclamation_mark = 33
+
+abbrev pub quotation_mark : ℕ
+quotation_mark = 34
+
+abbrev pub number_sign : ℕ
+number_sign = 35
+
+abbrev pub dollar : ℕ
+dollar = 36
+
+abbrev pub ampersand : ℕ
+ampersand = 38
+
+abbrev pub apostrophe : ℕ
+apostrophe = 39
+
+abbrev pub opening_parenthesis : ℕ
+opening_parenthesis = 40
+
+abbrev pub closing_parenthesis : ℕ
+closing_parenthesis = 41
+
+abbrev pub plus : ℕ
+plus = 43
+
+abbrev pub comma : ℕ
+comma = 44
+
+abbrev pub dash : ℕ
+dash = 45
+
+abbrev pub dot : ℕ
+dot = 46
+
+abbrev pub slash : ℕ
+slash = 47
+
+abbrev pub colon : ℕ
+colon = 58
+
+abbrev pub semicolon : ℕ
+semicolon = 59
+
+abbrev pub less_than : ℕ
+less_than = 60
+
+abbrev pub equals_sign : ℕ
+equals_sign = 61
+
+abbrev pub greater_than : ℕ
+greater_than = 62
+
+abbrev pub question_mark : ℕ
+question_mark = 63
+
+abbrev pub opening_bracket : ℕ
+opening_bracket = 91
+
+abbrev pub closing_bracket : ℕ
+closing_bracket = 93
+
+abbrev pub underscore : ℕ
+underscore = 95
+
+abbrev pub opening_brace : ℕ
+opening_brace = 123
+
+abbrev pub bar : ℕ
+bar = 124
+
+abbrev pub closing_brace : ℕ
+closing_brace = 125
+
+abbrev pub tilde : ℕ
+tilde = 126
