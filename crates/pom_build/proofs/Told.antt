@@ -39,23 +39,7 @@ use Rattle.pom_build.specs.declared.build.Effective.{Effective}
 use Rattle.pom_build.specs.declared.line.Line.{Line}
 use Rattle.pom_build.specs.declared.outcome.Outcome.{Outcome}
 use Rattle.pom_build.specs.declared.outcome.Outcome.TheVariants.{Built, Needs, NotFound, Refused}
-
--- members of lists
-
-none : {X : Type 0} (x : X) → Contains [] x → ⊥
-none x h = omega (arith, h.1)
-
-first : {X : Type 0} (x : X) (xs : List X) → Contains (x ∷ xs) x
-first x xs = Contains-append_left (x ∷ []) xs x (Contains-push [] x)
-
-later : {X : Type 0} (x : X) (xs : List X) (y : X) → Contains xs y → Contains (x ∷ xs) y
-later x xs y h = Contains-append_right (x ∷ []) xs y h
-
-only : {X : Type 0} (x y : X) → Contains (x ∷ []) y → x ≡ y
-only x y h = ⊎_elim (λ before. absurd (none y before)) (λ is. is) (Contains-push_cases [] x y h)
-
-first_or_later : {X : Type 0} (x : X) (xs : List X) (y : X) → Contains (x ∷ xs) y → (x ≡ y) ⊎ Contains xs y
-first_or_later x xs y h = ⊎_elim (λ here. inl (only x y here)) (λ there. inr there) (Contains-append_cases (x ∷ []) xs y h)
+use Rattle.pom_build.proofs.Members.{none, first, later, only, first_or_later}
 
 -- keys that are equal are one
 

@@ -10,5 +10,6 @@ pub mod NeededKeys
 pub mod Outcomes
 pub mod Projects
 pub mod Puts
+pub mod Reached
 pub mod Reads
 pub mod Rows

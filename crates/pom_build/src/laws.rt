@@ -1,12 +1,14 @@
 //! Laws of effective projects, as functions with nothing to run.
-ghost use Rattle.std.specs.Prelude.{◌≡◌, ◌<◌, ◌↔◌, ℕ, List, false, length, Contains};
+ghost use Rattle.std.specs.Prelude.{◌≡◌, ◌<◌, ◌≤◌, ◌↔◌, ℕ, List, false, length, Contains};
 ghost use Rattle.std.specs.List.{IsDistinct};
 ghost use Rattle.pom_build.specs.Effectives.{effective_of};
 ghost use Rattle.pom_build.specs.FoundProjects.{IsFound};
 ghost use Rattle.pom_build.specs.Imports.{managed_from};
 ghost use Rattle.pom_build.specs.NeededKeys.{IsOpen, IsPomKey, needed_by};
 ghost use Rattle.pom_build.specs.Outcomes.{is_waiting, waits};
+ghost use Rattle.pom_build.specs.Reached.{IsApart, IsKept, reached};
 ghost use Rattle.pom_build.specs.Reads.{Agree, effective_keys};
+ghost use Rattle.pom_build.specs.declared.outcome.Outcome.TheVariants.{Built as BuiltPart};
 ghost use Rattle.pom_build.specs.declared.build.Effective.{Effective as Project};
 ghost use Rattle.pom_build.specs.declared.build.Build.TheVariants.{Built, Needs, NotFound, Refused};
 ghost use Rattle.pom_build.specs.declared.build.BuildFault.TheVariants.{LineAbsent};
@@ -14,6 +16,7 @@ ghost use Rattle.res_base.specs.Known.{Known, Grows};
 ghost use Rattle.res_base.specs.Names.{key_eq};
 ghost use Rattle.res_base.specs.declared.coord.Coord.{Coord};
 ghost use Rattle.res_base.specs.declared.key.FileKey.{FileKey};
+ghost use Rattle.res_base.specs.declared.pom.DepRecord.{DepRecord};
 ghost use Rattle.res_base.specs.declared.reading.Reason.{Reason};
 
 use project_lookup::look_laws;
@@ -60,4 +63,15 @@ pub fn read_laws()
         Agree known other (effective_keys known repos c) → effective_of other repos c ≡ effective_of known repos c }
     ensures keys { (known other : Known) (repos : ℕ) (c : Coord) →
         Agree known other (effective_keys known repos c) → effective_keys other repos c ≡ effective_keys known repos c }
+{}
+
+/// A built managed list does not depend on the chain of imports before it, where no project that it
+/// reaches stands in the chain and as many levels are left.
+pub fn chain_laws()
+    ensures kept { (known : Known) (repos left : ℕ) (chain : List Coord) (c : Coord) (rows : List DepRecord) →
+        managed_from known repos left chain c ≡ BuiltPart rows →
+        IsKept known repos c rows left (reached known repos left c) }
+    ensures given { (known : Known) (repos : ℕ) (c : Coord) (rows : List DepRecord) (levels : ℕ) (coords : List Coord) →
+        IsKept known repos c rows levels coords → (left : ℕ) (chain : List Coord) → levels ≤ left →
+        IsApart coords chain → managed_from known repos left chain c ≡ BuiltPart rows }
 {}
