@@ -16,7 +16,7 @@ use Rattle.pom_build.specs.declared.outcome.Outcome.{Outcome}
 use Rattle.pom_build.specs.declared.outcome.Outcome.TheVariants.{Built, Needs, NotFound, Refused}
 
 -- where the first does not wait, the second is the same
-record Stays {A : Type 0} (u v : Outcome A) : Type 0 where
+pub record Stays {A : Type 0} (u v : Outcome A) : Type 0 where
   pub same : waits u ≡ false → v ≡ u
 
 stays-refl : {A : Type 0} (u : Outcome A) → Stays u u
@@ -98,11 +98,11 @@ module _ (before after : Known) (repos : ℕ) (looks : (c : Coord) → is_missin
       (λ parent. on_look (look_of before repos parent) line parent (line_from before repos left)) (λ parent. on_look (look_of after repos parent) line parent (line_from after repos left))
       (on_look-stays (look_of before repos c) (look_of after repos c) (looks c) line c (line_from before repos left) (line_from after repos left) (line_from-stays left)))
 
-  line_of-stays : (c : Coord) → Stays (line_of before repos c) (line_of after repos c)
+  pub line_of-stays : (c : Coord) → Stays (line_of before repos c) (line_of after repos c)
   unfolding line_of
   line_of-stays c = started-stays (look_of before repos c) (look_of after repos c) (looks c) c (line_from before repos 31) (line_from after repos 31) (line_from-stays 31)
 
-  managed_from-stays : (left : ℕ) (chain : List Coord) (c : Coord) → Stays (managed_from before repos left chain c) (managed_from after repos left chain c)
+  pub managed_from-stays : (left : ℕ) (chain : List Coord) (c : Coord) → Stays (managed_from before repos left chain c) (managed_from after repos left chain c)
   managed_from-stays zero chain c = stays-refl _
   managed_from-stays (suc left) chain c =
       unless_met-stays (is_among c chain) _ c

@@ -26,11 +26,11 @@ use Rattle.pom_build.specs.declared.outcome.Outcome.{Outcome}
 use Rattle.pom_build.specs.declared.outcome.Outcome.TheVariants.{Built, Needs, NotFound, Refused}
 
 module _ (known other : Known) where
-  front : (keys more : List FileKey) → Agree known other (keys ++ more) → Agree known other keys
+  pub front : (keys more : List FileKey) → Agree known other (keys ++ more) → Agree known other keys
   front [] more h = tt
   front (key ∷ keys) more h = (h.0, front keys more h.1)
 
-  back : (keys more : List FileKey) → Agree known other (keys ++ more) → Agree known other more
+  pub back : (keys more : List FileKey) → Agree known other (keys ++ more) → Agree known other more
   back [] more h = h
   back (key ∷ keys) more h = back keys more h.1
 
@@ -54,7 +54,7 @@ module _ (known other : Known) where
       (λ reason. look_from known path (repo + 1) left (why ++ reason ∷ [])) (λ reason. look_from other path (repo + 1) left (why ++ reason ∷ []))
       (λ later reason. look_from-same path left (repo + 1) later (why ++ reason ∷ [])) h.1
 
-  look-same : (repos : ℕ) (c : Coord) → Agree known other (look_keys known repos c) → look_of other repos c ≡ look_of known repos c
+  pub look-same : (repos : ℕ) (c : Coord) → Agree known other (look_keys known repos c) → look_of other repos c ≡ look_of known repos c
   look-same repos c = by (is_plain_coord c) refl
     where
       by : (b : Bool) → is_plain_coord c ≡ b → Agree known other (look_keys known repos c) → look_of other repos c ≡ look_of known repos c
@@ -104,7 +104,7 @@ module _ (known other : Known) where
         agree)
         h
 
-    line-same : (c : Coord) → Agree known other (line_keys known repos c) → line_of other repos c ≡ line_of known repos c
+    pub line-same : (c : Coord) → Agree known other (line_keys known repos c) → line_of other repos c ≡ line_of known repos c
     unfolding line_of
     line-same c h =
         ap (λ looked. started looked c (line_from other repos 31)) (look-same repos c (front (look_keys known repos c) _ h))

@@ -1,4 +1,10 @@
 pub mod BuildGrows
 pub mod BuildReads
+pub mod Chains
 pub mod Climbing
+pub mod Found
+pub mod KeysGrow
+pub mod KeysSame
+pub mod Members
+pub mod Told
 pub mod Valued

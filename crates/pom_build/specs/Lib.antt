@@ -1,12 +1,15 @@
 pub mod Climbs
 pub mod Effectives
 pub mod Filling
+pub mod FoundProjects
 pub mod Gathers
 pub mod Imports
 pub mod Lines
 pub mod Names
+pub mod NeededKeys
 pub mod Outcomes
 pub mod Projects
 pub mod Puts
+pub mod Reached
 pub mod Reads
 pub mod Rows

@@ -1,5 +1,6 @@
 //! What comes of building a project.
-use res_base::{Coord, DepRecord, FileKey, List, Reason, Text};
+use res_base::{Coord, Copied, DepRecord, FileKey, List, NoMemory, Reason, Text};
+use std::alloc::Global;
 
 /// A project with all that it inherits, imports and is managed by.
 #[derive(Drop)]
@@ -37,4 +38,42 @@ pub enum Build {
     /// No repository has the project: why, for each in the listed order.
     NotFound(List<Reason>),
     Refused(BuildFault),
+}
+
+impl Copied for Effective {
+    fn copy(&self, alloc: Global) -> Result<Effective, NoMemory> {
+        Ok(Effective {
+            coord: self.coord.copy(alloc)?,
+            repo: self.repo,
+            packaging: self.packaging.copy(alloc)?,
+            deps: self.deps.copy(alloc)?,
+            managed: self.managed.copy(alloc)?,
+            moved: self.moved,
+        })
+    }
+}
+
+impl Copied for BuildFault {
+    fn copy(&self, alloc: Global) -> Result<BuildFault, NoMemory> {
+        match self {
+            BuildFault::ParentCycle(path) => Ok(BuildFault::ParentCycle(path.copy(alloc)?)),
+            BuildFault::ImportCycle(path) => Ok(BuildFault::ImportCycle(path.copy(alloc)?)),
+            BuildFault::TooDeep(path) => Ok(BuildFault::TooDeep(path.copy(alloc)?)),
+            BuildFault::LineAbsent(coord, why) => {
+                let coord = coord.copy(alloc)?;
+                Ok(BuildFault::LineAbsent(coord, why.copy(alloc)?))
+            }
+        }
+    }
+}
+
+impl Copied for Build {
+    fn copy(&self, alloc: Global) -> Result<Build, NoMemory> {
+        match self {
+            Build::Built(project) => Ok(Build::Built(project.copy(alloc)?)),
+            Build::Needs(keys) => Ok(Build::Needs(keys.copy(alloc)?)),
+            Build::NotFound(why) => Ok(Build::NotFound(why.copy(alloc)?)),
+            Build::Refused(fault) => Ok(Build::Refused(fault.copy(alloc)?)),
+        }
+    }
 }

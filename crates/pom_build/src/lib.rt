@@ -16,4 +16,4 @@ mod tests;
 
 pub use build::{Build, BuildFault, Effective};
 pub use effectives::effective;
-pub use laws::{build_laws, read_laws};
+pub use laws::{answer_laws, build_laws, chain_laws, read_laws};
