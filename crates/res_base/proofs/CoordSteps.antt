@@ -5,7 +5,8 @@ use Rattle.std.proofs.lemmas.List.{take_more, get_or-drop, length-drop}
 use Rattle.fault_place.specs.Place.{IsPlace}
 use Rattle.fault_place.specs.Reader.{At, Accepts}
 use Rattle.fault_place.proofs.Readers.{step_at, stops_at, ends_at, ends_with, at_start, spelled as read_spelled}
-use Rattle.res_base.specs.Plain.{is_word_byte, is_plain_byte, is_dot, is_plain_name}
+use Rattle.ascii_bytes.specs.Classes.{is_word_byte, is_plain_byte}
+use Rattle.res_base.specs.Plain.{is_dot, is_plain_name}
 use Rattle.res_base.specs.CoordText.{is_constraint_byte, IsCoordText}
 use Rattle.res_base.specs.CoordReader.{State, in_org, in_name, in_constraint, step, outcome, coord_in, coord_reader}
 use Rattle.res_base.specs.declared.coord.Coord.{Coord}

@@ -1,8 +1,10 @@
 -- Two plain coordinates have two POM paths, and two plain modules two listing paths.
 use Rattle.std.proofs.Common.{◌≡◌, ℕ, Bool, true, false, cond, not, ◌&&◌, ◌||◌, List, [], ◌∷◌, ◌++◌, refl, sym, ◌∙◌, ap, subst, append_assoc}
 use Rattle.std.specs.Prelude.{◌==◌, codes}
+use Rattle.std.specs.List.{list_all}
 use Rattle.std.proofs.lemmas.Bool.{and_parts, and_from, eqb-true, false_from_ne_true}
-use Rattle.res_base.specs.Plain.{every, is_word_byte, is_plain_byte, is_dot, goes_on_as_org, is_plain_org, is_plain_name, is_at_most_two_dots, is_plain_module, is_plain_coord}
+use Rattle.ascii_bytes.specs.Classes.{is_word_byte, is_plain_byte}
+use Rattle.res_base.specs.Plain.{is_dot, goes_on_as_org, is_plain_org, is_plain_name, is_at_most_two_dots, is_plain_module, is_plain_coord}
 use Rattle.res_base.specs.Paths.{slashed, slashed_byte, module_folder, pom_path_of, listing_path_of}
 use Rattle.res_base.specs.declared.coord.Module.{Module}
 use Rattle.res_base.specs.declared.coord.Coord.{Coord}
@@ -11,7 +13,7 @@ abbrev no_slash_byte : ℕ → Bool
 no_slash_byte byte = not (byte == 47)
 
 abbrev has_no_slash : List ℕ → Bool
-has_no_slash text = every no_slash_byte text
+has_no_slash text = list_all no_slash_byte text
 
 -- a byte that passes a test which a slash does not pass is no slash
 passes_no_slash : (test : ℕ → Bool) (byte : ℕ) → test 47 ≡ false → test byte ≡ true → no_slash_byte byte ≡ true
@@ -19,11 +21,11 @@ passes_no_slash test byte at_slash passes =
     let no : (byte == 47) ≡ false = false_from_ne_true (byte == 47) (λ e. let is : byte ≡ 47 = eqb-true byte 47 e in let bad : false ≡ true = sym at_slash ∙ (ap test (sym is) ∙ passes) in cc) in
     ap not no
 
-every_no_slash : (test : ℕ → Bool) (text : List ℕ) → test 47 ≡ false → every test text ≡ true → has_no_slash text ≡ true
-every_no_slash test [] at_slash e = refl
-every_no_slash test (byte ∷ text) at_slash e =
-    let both = and_parts (test byte) (every test text) e in
-    and_from (no_slash_byte byte) (has_no_slash text) (passes_no_slash test byte at_slash both.0) (every_no_slash test text at_slash both.1)
+all_no_slash : (test : ℕ → Bool) (text : List ℕ) → test 47 ≡ false → list_all test text ≡ true → has_no_slash text ≡ true
+all_no_slash test [] at_slash e = refl
+all_no_slash test (byte ∷ text) at_slash e =
+    let both = and_parts (test byte) (list_all test text) e in
+    and_from (no_slash_byte byte) (has_no_slash text) (passes_no_slash test byte at_slash both.0) (all_no_slash test text at_slash both.1)
 
 no_slash-append : (a b : List ℕ) → has_no_slash a ≡ true → has_no_slash b ≡ true → has_no_slash (a ++ b) ≡ true
 no_slash-append [] b p q = q
@@ -32,7 +34,7 @@ no_slash-append (byte ∷ a) b p q =
     and_from (no_slash_byte byte) (has_no_slash (a ++ b)) both.0 (no_slash-append a b both.1 q)
 
 name_no_slash : (name : List ℕ) → is_plain_name name ≡ true → has_no_slash name ≡ true
-name_no_slash name plain = every_no_slash is_plain_byte name refl (and_parts (every is_plain_byte name) (not (is_at_most_two_dots name)) plain).0
+name_no_slash name plain = all_no_slash is_plain_byte name refl (and_parts (list_all is_plain_byte name) (not (is_at_most_two_dots name)) plain).0
 
 -- what an org's byte may be
 abbrev is_org_byte : ℕ → Bool
@@ -52,14 +54,14 @@ org_byte false byte e = by (is_word_byte byte) (is_dot byte) e
     by false true h = refl
     by false false h = h
 
-org_bytes : (in_part : Bool) (org : List ℕ) → goes_on_as_org in_part org ≡ true → every is_org_byte org ≡ true
+org_bytes : (in_part : Bool) (org : List ℕ) → goes_on_as_org in_part org ≡ true → list_all is_org_byte org ≡ true
 org_bytes in_part [] e = refl
 org_bytes in_part (byte ∷ org) e =
     let both = and_parts (is_word_byte byte || (is_dot byte && in_part)) (goes_on_as_org (is_word_byte byte) org) e in
-    and_from (is_org_byte byte) (every is_org_byte org) (org_byte in_part byte both.0) (org_bytes (is_word_byte byte) org both.1)
+    and_from (is_org_byte byte) (list_all is_org_byte org) (org_byte in_part byte both.0) (org_bytes (is_word_byte byte) org both.1)
 
 org_no_slash : (org : List ℕ) → is_plain_org org ≡ true → has_no_slash org ≡ true
-org_no_slash org plain = every_no_slash is_org_byte org refl (org_bytes false org plain)
+org_no_slash org plain = all_no_slash is_org_byte org refl (org_bytes false org plain)
 
 -- where the last slash stands
 

@@ -37,9 +37,6 @@ returns-then-not-is_plain_byte-clause-found c =
     let text = c.args.text.now in
     let j = c.loop-j.j in
     let org = take c.args.first text in
-    let name = slice_range text (c.args.first + 1) j in (
-      omega arith,
-      c.loop-j-test.true,
-      next text j (in_name org name) (in_constraint org name []) c.loop-j-test.true c.loop-j.invariant
-          (name_colon org name (get_or text j 0) c.if-byte-ne58.false (sym c.is_plain_name.ensures ∙ c.if-not-is_plain_name.false)),
-    )
+    let name = slice_range text (c.args.first + 1) j in
+    next text j (in_name org name) (in_constraint org name []) c.loop-j-test.true c.loop-j.invariant
+    (name_colon org name (get_or text j 0) c.if-byte-ne58.false (sym c.is_plain_name.ensures ∙ c.if-not-is_plain_name.false))

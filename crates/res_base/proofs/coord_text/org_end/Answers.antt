@@ -11,11 +11,9 @@ use Rattle.res_base.proofs.coord_text.org_end.Goals.{then-is_word_byte, else-is_
 
 pub returns-then-in_part-2-clause-found : goal.returns-then-in_part-2-clause-found
 returns-then-in_part-2-clause-found c =
-    let org = take c.loop-i.i c.args.text.now in (
-      c.loop-i-test.true,
-      next c.args.text.now c.loop-i.i (in_org org c.loop-i.in_part) (in_name org []) c.loop-i-test.true c.loop-i.invariant
-          (org_colon org c.loop-i.in_part _ c.if-byte-eq58.true c.if-in_part-2.true),
-    )
+    let org = take c.loop-i.i c.args.text.now in
+    next c.args.text.now c.loop-i.i (in_org org c.loop-i.in_part) (in_name org []) c.loop-i-test.true c.loop-i.invariant
+    (org_colon org c.loop-i.in_part _ c.if-byte-eq58.true c.if-in_part-2.true)
 
 pub returns-else-byte-eq58-clause-refused : goal.returns-else-byte-eq58-clause-refused
 returns-else-byte-eq58-clause-refused c =

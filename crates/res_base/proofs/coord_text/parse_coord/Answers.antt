@@ -11,7 +11,7 @@ range-name-requires-clause-start_boundary c =
     let Colon : List ℕ → Type 0 = λ text. get_or text c.in-Ok.at 0 ≡ 58 in
     let Within : List ℕ → Type 0 = λ text. c.in-Ok.at < length text in
     let colon = subst Colon same c.in-Ok.ensures.colon in
-    λ _. IsCharBoundary-after_ascii c.args.text.now c.in-Ok.at c.utf8.text (subst Within same c.in-Ok.ensures.found.0) (omega (arith, colon))
+    λ _. IsCharBoundary-after_ascii c.args.text.now c.in-Ok.at c.utf8.text (subst Within same c.in-Ok.ensures.within) (omega (arith, colon))
 
 pub returns-in-Err-clause-none : goal.returns-in-Err-clause-none
 returns-in-Err-clause-none c = λ n _. none_at_place c.as_bytes-bytes.result.now c.args.text.now c.in-Err.place c.as_bytes-bytes.ensures.value c.in-Err.ensures.refused
