@@ -33,7 +33,8 @@ coord_same a b e =
 
 coord_itself : (a : Coord) → coord_eq a a ≡ true
 coord_itself a =
-    and_from (module_eq a.«module» a.«module») (text_eq a.version a.version) (module_itself a.«module») (text_itself a.version)
+    and_from (module_eq a.«module» a.«module») (text_eq a.version a.version) (module_itself a.«module»)
+    (text_itself a.version)
 
 role_same : (a b : Role) → role_eq a b ≡ true → a ≡ b
 role_same roles.Pom roles.Pom e = refl
@@ -63,7 +64,8 @@ key_itself a =
     (and_from (nat_eq a.repo a.repo) (text_eq a.path a.path) (eq-eqb a.repo a.repo refl) (text_itself a.path))
     (role_itself a.role)
 
-module _ {A : Type 0} (eq : A → A → Bool) (same : (a b : A) → eq a b ≡ true → a ≡ b) (itself : (a : A) → eq a a ≡ true) where
+module _ {A : Type 0} (eq : A → A → Bool) (same : (a b : A) → eq a b ≡ true → a ≡ b)
+    (itself : (a : A) → eq a a ≡ true) where
   decided : (a b : A) → (eq a b ≡ true) ↔ (a ≡ b)
   decided a b = (same a b, λ e. sym (ap (eq a) e) ∙ itself a)
 

@@ -1,3 +1,4 @@
+-- Lemmas on coordinates and paths, and laws of equality, members and known answers.
 pub mod CoordReaderRight
 pub mod CoordSteps
 pub mod Equality

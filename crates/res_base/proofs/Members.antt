@@ -67,7 +67,8 @@ module _ {A B : Type 0} (f : A → List B) where
   among_flat_map y (x ∷ xs) h =
       elim (among_either y (f x) (flat_map f xs) h) [
         | inl k ↦ record { source = x; member = inl refl; gives = k }
-        | inr k ↦ let l : From y xs = among_flat_map y xs k in record { source = l.source; member = inr l.member; gives = l.gives }
+        | inr k ↦ let l : From y xs = among_flat_map y xs k in record
+            { source = l.source; member = inr l.member; gives = l.gives }
       ]
 
   pub into_flat_map : (x : A) (y : B) (xs : List A) → Among x xs → Among y (f x) → Among y (flat_map f xs)
@@ -77,7 +78,8 @@ module _ {A B : Type 0} (f : A → List B) where
 
 -- a list without its repeats
 module _ {A : Type 0} (eq : A → A → Bool) (same : (a b : A) → eq a b ≡ true → a ≡ b) where
-  into_unless : (x one : A) (b : Bool) (xs : List A) → list_any (eq one) xs ≡ b → (x ≡ one) ⊎ Among x xs → Among x (unless_there b one xs)
+  into_unless : (x one : A) (b : Bool) (xs : List A) → list_any (eq one) xs ≡ b → (x ≡ one) ⊎ Among x xs
+      → Among x (unless_there b one xs)
   into_unless x one true xs e (inl is) =
       let l = any_among (eq one) xs e in
       subst (λ k. Among k xs) (sym (is ∙ same one l.0 l.1.passes)) l.1.member

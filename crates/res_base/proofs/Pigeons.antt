@@ -35,20 +35,24 @@ none_counted : {A : Type 0} (p : A → Bool) (xs : List A) → list_any p xs ≡
 none_counted p [] e = refl
 none_counted p (x ∷ xs) e = rw (count-cons p x xs) (by (p x) e (none_counted p xs))
   where
-    by : (b : Bool) → (b || list_any p xs) ≡ false → (list_any p xs ≡ false → count_by p xs ≡ 0) → cond b 1 0 + count_by p xs ≡ 0
+    by : (b : Bool) → (b || list_any p xs) ≡ false → (list_any p xs ≡ false → count_by p xs ≡ 0)
+        → cond b 1 0 + count_by p xs ≡ 0
     by true h later = absurd (true≢false h)
     by false h later = omega (arith, later h)
 
-module _ {A : Type 0} (eq : A → A → Bool) (same : (a b : A) → eq a b ≡ true → a ≡ b) (itself : (a : A) → eq a a ≡ true) where
+module _ {A : Type 0} (eq : A → A → Bool) (same : (a b : A) → eq a b ≡ true → a ≡ b)
+    (itself : (a : A) → eq a a ≡ true) where
   -- values that are all among others, each at most so many times
-  pub pigeons : (most : ℕ) (xs ys : List A) → ((x : A) → Among x xs → Among x ys) → ((x : A) → count_by (eq x) xs ≤ most) → length xs ≤ most * length ys
+  pub pigeons : (most : ℕ) (xs ys : List A) → ((x : A) → Among x xs → Among x ys)
+      → ((x : A) → count_by (eq x) xs ≤ most) → length xs ≤ most * length ys
   pigeons most [] [] within few = omega arith
   pigeons most (x ∷ xs) [] within few = absurd (within x (inl refl))
   pigeons most xs (y ∷ ys) within few =
       let rest : List A = filter (λ x. not (eq y x)) xs in
       let later : length rest ≤ most * length ys =
       pigeons most rest ys
-      (λ x h. let p : Passed (λ z. not (eq y z)) x xs = among_filter (λ z. not (eq y z)) x xs h in other x p.passes (within x p.member))
+      (λ x h. let p : Passed (λ z. not (eq y z)) x xs =
+      among_filter (λ z. not (eq y z)) x xs h in other x p.passes (within x p.member))
       (λ x. omega (arith, filter_count (eq x) (λ z. not (eq y z)) xs, few x)) in
       let all : length xs ≡ count_by (eq y) xs + count_by (λ x. not (eq y x)) xs = split_count (eq y) xs in
       let is : length rest ≡ count_by (λ x. not (eq y x)) xs = length-filter (λ x. not (eq y x)) xs in
@@ -66,7 +70,8 @@ module _ {A : Type 0} (eq : A → A → Bool) (same : (a b : A) → eq a b ≡ t
       one : (b : Bool) → eq x y ≡ b → list_any (eq y) (each_once eq xs) ≡ false → count_by (eq x) (each_once eq xs) ≤ 1
           → cond b 1 0 + count_by (eq x) (each_once eq xs) ≤ 1
       one true e none h =
-          let zero : count_by (eq x) (each_once eq xs) ≡ 0 = ap (λ z. count_by (eq z) (each_once eq xs)) (same x y e) ∙ none_counted (eq y) (each_once eq xs) none in
+          let zero : count_by (eq x) (each_once eq xs) ≡ 0 = ap (λ z. count_by (eq z) (each_once eq xs)) (same x y e)
+          ∙ none_counted (eq y) (each_once eq xs) none in
           omega (arith, zero)
       one false e none h = omega (arith, h)
 

@@ -12,7 +12,8 @@ is_dot byte = byte == dot
 -- The rest of an org, after a byte of a part or not: a dot, and the end, stand after a byte of a part.
 abbrev pub goes_on_as_org : Bool → List ℕ → Bool
 goes_on_as_org in_part [] = in_part
-goes_on_as_org in_part (byte ∷ text) = (is_word_byte byte || (is_dot byte && in_part)) && goes_on_as_org (is_word_byte byte) text
+goes_on_as_org in_part (byte ∷ text) = (is_word_byte byte || (is_dot byte && in_part)) && goes_on_as_org
+    (is_word_byte byte) text
 
 -- one or more parts of word bytes, with a dot between two
 abbrev pub is_plain_org : List ℕ → Bool
