@@ -1,2 +1,3 @@
+-- Lemmas on trimmed texts, ranges of texts and the room of numbers.
 mod Numbers
 mod Texts

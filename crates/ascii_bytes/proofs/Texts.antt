@@ -18,12 +18,16 @@ module _ (has : ℕ → Bool) where
   other_last (x ∷ (y ∷ xs)) c e = ap (before_trimmed has x) (other_last (y ∷ xs) c e)
 
   one_more : (xs : List ℕ) (n : ℕ) → 0 < n → n ≤ length xs → take n xs ≡ take (n - 1) xs ++ get_or xs (n - 1) 0 ∷ []
-  one_more xs n above within = let e : n ≡ n - 1 + 1 = omega arith in ap (λ k. take k xs) e ∙ take_more xs (n - 1) 0 (omega arith)
+  one_more xs n above within = let e : n ≡ n - 1 + 1 = omega arith in ap (λ k. take k xs) e
+      ∙ take_more xs (n - 1) 0 (omega arith)
 
-  pub trimmed_before : (xs : List ℕ) (n : ℕ) → 0 < n → n ≤ length xs → has (get_or xs (n - 1) 0) ≡ true → trim_end has (take (n - 1) xs) ≡ trim_end has (take n xs)
-  trimmed_before xs n above within e = sym (ap (trim_end has) (one_more xs n above within) ∙ trimmed_last (take (n - 1) xs) (get_or xs (n - 1) 0) e)
+  pub trimmed_before : (xs : List ℕ) (n : ℕ) → 0 < n → n ≤ length xs → has (get_or xs (n - 1) 0) ≡ true
+      → trim_end has (take (n - 1) xs) ≡ trim_end has (take n xs)
+  trimmed_before xs n above within e = sym (ap (trim_end has) (one_more xs n above within)
+      ∙ trimmed_last (take (n - 1) xs) (get_or xs (n - 1) 0) e)
 
-  pub other_before : (xs : List ℕ) (n : ℕ) → 0 < n → n ≤ length xs → has (get_or xs (n - 1) 0) ≡ false → take n xs ≡ trim_end has (take n xs)
+  pub other_before : (xs : List ℕ) (n : ℕ) → 0 < n → n ≤ length xs → has (get_or xs (n - 1) 0) ≡ false
+      → take n xs ≡ trim_end has (take n xs)
   other_before xs n above within e =
       one_more xs n above within
       ∙ sym (ap (trim_end has) (one_more xs n above within) ∙ other_last (take (n - 1) xs) (get_or xs (n - 1) 0) e)
@@ -34,7 +38,8 @@ module _ (has : ℕ → Bool) where
   range_more xs i j below within part e =
       let count : j + 1 - i ≡ (j - i) + 1 = omega arith in
       let place : i + (j - i) ≡ j = omega arith in
-      let last : get_or (drop i xs) (j - i) 0 ≡ get_or xs j 0 = get_or-drop i xs (j - i) 0 ∙ ap (λ n. get_or xs n 0) place in
+      let last : get_or (drop i xs) (j - i) 0 ≡ get_or xs j 0 = get_or-drop i xs (j - i) 0
+      ∙ ap (λ n. get_or xs n 0) place in
       let more : slice_range xs i (j + 1) ≡ slice_range xs i j ++ get_or xs j 0 ∷ [] =
       ap (λ n. take n (drop i xs)) count ∙ take_more (drop i xs) (j - i) 0 (rw length-drop (omega arith))
       ∙ ap (λ x. slice_range xs i j ++ x ∷ []) last in

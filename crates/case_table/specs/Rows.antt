@@ -18,7 +18,7 @@ value_at name rows = option_map (λ row. row.1) (find (λ row. bytes_eq row.0 na
 abbrev pub last_row : {T : Type 0} → List (List ℕ × T) → Option (List ℕ × T)
 last_row rows = slice_get rows (length rows - 1)
 
--- whether a row with this name may stand behind these rows: the last name, if any, is below it
+-- whether a row with this name may stand after these rows: the last name, if any, is below it
 abbrev pub may_follow : {T : Type 0} → List (List ℕ × T) → List ℕ → Bool
 may_follow rows name = option_map_or (λ row. is_lt (name_cmp row.0 name)) (last_row rows) true
 

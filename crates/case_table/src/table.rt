@@ -1,3 +1,4 @@
+//! Tables.
 ghost use Rattle.std.specs.Prelude.{◌≡◌, [], ◌∷◌, ◌++◌, true, IfErr, OnOk, OnErr, option_copied};
 ghost use Rattle.case_table.specs.Rows.{value_at, may_follow, NamesRise};
 ghost use Rattle.case_table.specs.Refusals.{IsRefusal};
@@ -5,7 +6,7 @@ ghost use Rattle.case_table.specs.Refusals.{IsRefusal};
 use std::alloc::{AllocError, Global};
 use std::marker::Model;
 
-/// There was not enough memory.
+/// Out of memory.
 #[derive(Clone, Copy, Debug, PartialEq, Eq)]
 pub struct NoMemory;
 
@@ -24,9 +25,9 @@ pub enum AddErr {
 }
 
 impl From<AllocError> for AddErr {
-    ghost use Rattle.case_table.specs.declared.table.AddErr.TheVariants.{NoMemory as OutOfMemory};
+    ghost use Rattle.case_table.specs.declared.table.AddErr.TheVariants.{NoMemory};
 
-    ghost from_gives = { λ _ e. e ≡ OutOfMemory };
+    ghost from_gives = { λ _ e. e ≡ NoMemory };
 
     fn from(_: AllocError) -> AddErr {
         AddErr::NoMemory
@@ -57,13 +58,13 @@ pub struct Table<T> {
 
 impl<T> Model for Table<T> {
     ghost use Rattle.std.specs.Prelude.{ℕ, List};
-    ghost use Rattle.case_table.specs.Rows.{NamesRise as Rises};
+    ghost use Rattle.case_table.specs.Rows.{NamesRise};
 
     ghost Value = { List (List ℕ × T) };
 
     ghost view = { λ table. table.rows.items };
 
-    ghost invariant = { λ table. Rises table.rows.items };
+    ghost invariant = { λ table. NamesRise table.rows.items };
 }
 
 impl<T> Table<T> {
@@ -75,7 +76,7 @@ impl<T> Table<T> {
         }
     }
 
-    /// Puts a row behind the others, which keep their places.
+    /// Puts a row after the others, which keep their places.
     ///
     /// `NotSorted` comes exactly where the name is not above that of the last row, and then no
     /// memory is taken. After a refusal the table is as it was, and the value is dropped.

@@ -2,7 +2,8 @@
 use Rattle.std.proofs.Common.{◌≡◌, ◌++◌, ◌∷◌, [], ◌==◌, ◌&&◌, ◌||◌, ℕ, List, Bool, true, false, not, Option, Some, None, refl, ap, sym, ◌∙◌, subst, unwrap_or, if◌then◌else◌}
 use Rattle.std.specs.List.{list_all}
 use Rattle.std.proofs.lemmas.Bool.{eqb-true}
-use Rattle.res_base.specs.Plain.{is_word_byte, is_plain_byte, is_dot, every, goes_on_as_org, is_plain_org, is_plain_name, is_at_most_two_dots}
+use Rattle.ascii_bytes.specs.Classes.{is_word_byte, is_plain_byte}
+use Rattle.res_base.specs.Plain.{is_dot, goes_on_as_org, is_plain_org, is_plain_name, is_at_most_two_dots}
 use Rattle.res_base.specs.CoordText.{IsCoordText, is_constraint_text}
 use Rattle.res_base.specs.declared.coord.Coord.{Coord}
 use Rattle.coursier_run.specs.Bytes.{is_colon, cut_at}
@@ -31,10 +32,10 @@ org_is_other in_part (byte ∷ org) plain =
     (not_true (byte == 58) (λ e. let bad : (is_word_byte 58 || (is_dot 58 && in_part)) ≡ true = subst (λ b. (is_word_byte b || (is_dot b && in_part)) ≡ true) (eqb-true byte 58 e) parts.0 in cc))
     (org_is_other (is_word_byte byte) org parts.1)
 
-bytes_are_other : (text : List ℕ) → every is_plain_byte text ≡ true → list_all is_other text ≡ true
+bytes_are_other : (text : List ℕ) → list_all is_plain_byte text ≡ true → list_all is_other text ≡ true
 bytes_are_other [] plain = refl
 bytes_are_other (byte ∷ text) plain =
-    let parts = both (is_plain_byte byte) (every is_plain_byte text) plain in
+    let parts = both (is_plain_byte byte) (list_all is_plain_byte text) plain in
     and_true (is_other byte) (list_all is_other text) (plain_is_other byte parts.0) (bytes_are_other text parts.1)
 
 -- what is spelled is read
@@ -44,7 +45,7 @@ coord_of-spelled text c is =
     let name = c.«module».name in
     ap coord_of is.whole
     ∙ ap coord_of_org (cut-behind org (name ++ 58 ∷ c.version) (org_is_other false org is.org))
-    ∙ ap (coord_of_name org) (cut-behind name c.version (bytes_are_other name (both (every is_plain_byte name) (not (is_at_most_two_dots name)) is.name).0))
+    ∙ ap (coord_of_name org) (cut-behind name c.version (bytes_are_other name (both (list_all is_plain_byte name) (not (is_at_most_two_dots name)) is.name).0))
     ∙ rw (is.org, is.name, is.constraint) refl
 
 if_some : (b : Bool) (x y : Coord) → (if b then Some x else None) ≡ Some y → (b ≡ true) × (x ≡ y)

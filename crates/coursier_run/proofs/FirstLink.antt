@@ -3,7 +3,7 @@ use Rattle.std.proofs.Common.{◌≡◌, ◌⊎◌, ◌≤◌, ◌<◌, ℕ, Lis
 use Rattle.std.proofs.lemmas.List.Sums.{sum_by-cons}
 use Rattle.std.specs.List.{AllZip}
 use Rattle.link_base.proofs.Zipped.{zip_refl}
-use Rattle.link_base.specs.Causes.{Rose, count_end}
+use Rattle.res_base.specs.Causes.{Rose, count_end}
 use Rattle.link_base.specs.Links.{Rows}
 use Rattle.coursier_run.specs.declared.said.Said.{Said}
 use Rattle.coursier_run.specs.Outcomes.{IsCut, IsSaid, whole, cut_out, cut_err, Ends, says, no_memory, Streams}

@@ -3,7 +3,7 @@ use Rattle.std.specs.Prelude.{ℕ, ◌≡◌, ◌⊎◌, ◌<◌, ◌≤◌, Lis
 use Rattle.res_base.specs.Plain.{is_plain_coord}
 use Rattle.res_base.specs.Paths.{pom_path_of}
 use Rattle.res_base.specs.World.{at}
-use Rattle.link_base.specs.Causes.{Rose, count_end}
+use Rattle.res_base.specs.Causes.{Rose, count_end}
 use Rattle.link_base.specs.Links.{Rows, url_of}
 use Rattle.link_base.specs.declared.links.Got.{Got}
 use Rattle.link_base.specs.declared.links.Got.TheVariants.{Bytes}

@@ -2,7 +2,7 @@
 use Rattle.std.specs.Prelude.{ℕ, Bool, false, List, [], ◌∷◌, Option, Some, None, if◌then◌else◌, ◌&&◌, ◌||◌, ◌==◌, not, length, nat_le, nat_eq, codes}
 use Rattle.std.specs.List.{list_all, list_any, ends_with}
 use Rattle.res_base.specs.Names.{text_eq}
-use Rattle.res_base.specs.Plain.{is_plain_byte}
+use Rattle.ascii_bytes.specs.Classes.{is_plain_byte}
 use Rattle.res_base.specs.declared.coord.Coord.{Coord}
 use Rattle.coursier_run.specs.declared.words.WordKind.TheVariants.{NoCommand, TooMany, UnknownCommand, Repositories, Roots}
 use Rattle.coursier_run.specs.declared.words.Words.{Words}

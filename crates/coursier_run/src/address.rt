@@ -41,7 +41,7 @@ fn is_segment_byte(byte: u8) -> bool
 }
 
 fn has_segment_bytes(text: &[u8]) -> bool
-    ensures { result ≡ plain.every paths.is_segment_byte text.now }
+    ensures { result ≡ list_all paths.is_segment_byte text.now }
 {
     for byte in text {
         if !is_segment_byte(*byte) {

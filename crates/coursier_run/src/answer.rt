@@ -1,6 +1,6 @@
 // What is to be said of a job.
 ghost use Rattle.std.specs.Prelude.{◌≡◌, ◌≤◌, ℕ, List, IfOk};
-ghost use Rattle.link_base.specs.Causes.{Rose, counted};
+ghost use Rattle.res_base.specs.Causes.{Rose, counted};
 ghost use Rattle.link_base.specs.Links.{LinkKept, url_of};
 ghost use Rattle.coursier_run.specs.declared.said.Said.TheVariants.{Tells};
 ghost use Rattle.coursier_run.specs.declared.words.Words.TheVariants.{Asks};

@@ -1,6 +1,6 @@
 // Classes of bytes, and texts cut at a byte.
 ghost use Rattle.std.specs.Prelude.{◌≡◌};
-ghost use Rattle.res_base.specs.Plain as plain;
+ghost use Rattle.ascii_bytes.specs.Classes as plain;
 ghost use Rattle.coursier_run.specs.Bytes.{is_digit, is_letter_or_digit};
 
 pub fn is_digit_byte(byte: u8) -> bool

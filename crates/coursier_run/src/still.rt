@@ -1,7 +1,7 @@
 // The top call.
 ghost use Rattle.std.specs.Prelude.{◌≡◌, ◌⊎◌, ◌<◌, ◌≤◌, ℕ, List, Option, All, map, drop, string_bytes, vec_len, codes};
 ghost use Rattle.std.specs.List.{AllZip};
-ghost use Rattle.link_base.specs.Causes.{Rose, counted};
+ghost use Rattle.res_base.specs.Causes.{Rose, counted};
 ghost use Rattle.link_base.specs.Links.{LinkKept};
 ghost use Rattle.coursier_run.specs.declared.said.Said.TheVariants.{Tells};
 ghost use Rattle.coursier_run.specs.declared.words.WordKind.{WordKind as Kind};

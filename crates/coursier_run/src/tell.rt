@@ -1,6 +1,6 @@
 // Saying what is to be said.
 ghost use Rattle.std.specs.Prelude.{◌≡◌, ◌≤◌, ℕ, List, Option, OnOk, OnErr};
-ghost use Rattle.link_base.specs.Causes.{HasCause, Rose};
+ghost use Rattle.res_base.specs.Causes.{HasCause, Rose};
 ghost use Rattle.link_base.specs.Sinks.{gained, GainsPrefix};
 ghost use Rattle.coursier_run.specs.declared.said.Said.TheVariants.{Tells};
 ghost use Rattle.coursier_run.specs.Lines.{memory_line};

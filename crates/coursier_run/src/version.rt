@@ -1,7 +1,7 @@
 // Plain versions.
 ghost use Rattle.std.specs.Prelude.{◌≡◌};
 ghost use Rattle.std.specs.List.{list_all};
-ghost use Rattle.res_base.specs.Plain as plain;
+ghost use Rattle.ascii_bytes.specs.Classes as plain;
 ghost use Rattle.coursier_run.specs.Words as words;
 
 use crate::bytes::is_plain_byte;

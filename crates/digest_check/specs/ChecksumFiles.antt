@@ -1,30 +1,28 @@
 -- The digest that a checksum file holds.
-use Rattle.std.specs.Prelude.{ℕ, ◌+◌, ◌-◌, ◌*◌, Bool, not, ◌||◌, ◌==◌, nat_le, if◌then◌else◌, Option, None, List, [], ◌∷◌, codes, length, find}
+use Rattle.std.specs.Prelude.{ℕ, ◌+◌, ◌*◌, Bool, not, ◌==◌, Option, None, List, [], ◌∷◌, codes, length, find, unwrap_or}
 use Rattle.std.specs.List.{slice_split}
 use Rattle.std.specs.Option.{option_map}
-use Rattle.res_base.specs.Plain.{between}
+use Rattle.ascii_bytes.specs.Classes.{is_hex_digit}
+use Rattle.ascii_bytes.specs.Digits.{hex_digit}
 use Rattle.res_base.specs.declared.reading.Check.{Check}
 use Rattle.res_base.specs.declared.reading.Check.TheVariants as checks
 use Rattle.res_base.specs.declared.reading.Digest.{Digest}
 use Rattle.res_base.specs.declared.reading.Digest.TheVariants as kinds
 
--- 0-9 A-F a-f
-abbrev pub is_digit : ℕ → Bool
-is_digit byte = between 48 57 byte || (between 65 70 byte || between 97 102 byte)
+abbrev pub is_other : ℕ → Bool
+is_other byte = not (is_hex_digit byte)
 
-abbrev pub is_no_digit : ℕ → Bool
-is_no_digit byte = not (is_digit byte)
-
--- The maximal runs of digits, in order, with an empty one wherever two other bytes meet.
+-- The maximal runs of hexadecimal digits, in order, with an empty one wherever two other bytes meet.
 abbrev pub digit_runs : List ℕ → List (List ℕ)
-digit_runs text = slice_split is_no_digit text
+digit_runs text = slice_split is_other text
 
 -- the first of them with this length
 abbrev pub first_run : ℕ → List ℕ → Option (List ℕ)
 first_run len text = find (λ run. length run == len) (digit_runs text)
 
+-- the value of a digit
 abbrev pub digit_value : ℕ → ℕ
-digit_value byte = if nat_le byte 57 then byte - 48 else if nat_le byte 70 then byte - 55 else byte - 87
+digit_value byte = unwrap_or (hex_digit byte) 0
 
 -- a byte for each two digits, the first of them the higher
 abbrev pub from_digits : List ℕ → List ℕ
@@ -39,7 +37,7 @@ digest_in checks.Md5 text = option_map (λ run. kinds.Md5 (from_digits run)) (fi
 digest_in checks.Sha256 text = option_map (λ run. kinds.Sha256 (from_digits run)) (first_run 64 text)
 digest_in checks.NoCheck text = None
 
--- what the URL of a file's checksum file has behind that of the file
+-- what the URL of a file's checksum file has after that of the file
 abbrev pub suffix_of : Check → List ℕ
 suffix_of checks.Sha1 = codes ".sha1"
 suffix_of checks.Md5 = codes ".md5"

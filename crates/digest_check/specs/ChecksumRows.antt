@@ -17,7 +17,8 @@ md5_text = codes "900150983cd24fb0d6963f7d28e17f72"
 -- the SHA-1 of `abc`
 abbrev pub sha1_of_abc : List ℕ
 sha1_of_abc =
-    0xa9 ∷ 0x99 ∷ 0x3e ∷ 0x36 ∷ 0x47 ∷ 0x06 ∷ 0x81 ∷ 0x6a ∷ 0xba ∷ 0x3e ∷ 0x25 ∷ 0x71 ∷ 0x78 ∷ 0x50 ∷ 0xc2 ∷ 0x6c ∷ 0x9c ∷ 0xd0 ∷ 0xd8 ∷ 0x9d ∷ []
+    0xa9 ∷ 0x99 ∷ 0x3e ∷ 0x36 ∷ 0x47 ∷ 0x06 ∷ 0x81 ∷ 0x6a ∷ 0xba ∷ 0x3e ∷ 0x25 ∷ 0x71 ∷ 0x78 ∷ 0x50 ∷ 0xc2 ∷ 0x6c ∷
+    0x9c ∷ 0xd0 ∷ 0xd8 ∷ 0x9d ∷ []
 
 abbrev held : Option Digest
 held = Some (kinds.Sha1 sha1_of_abc)
@@ -37,7 +38,8 @@ upper_row = refl
 other_kind_first_row : digest_in checks.Sha1 (md5_text ++ codes " " ++ lower) ≡ held
 other_kind_first_row = refl
 
-first_of_two_row : digest_in checks.Sha1 (lower ++ codes "\n" ++ codes "0000000000000000000000000000000000000000") ≡ held
+first_of_two_row : digest_in checks.Sha1 (lower ++ codes "\n" ++ codes "0000000000000000000000000000000000000000")
+    ≡ held
 first_of_two_row = refl
 
 one_digit_more_row : digest_in checks.Sha1 (lower ++ codes "0") ≡ None

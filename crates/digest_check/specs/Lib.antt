@@ -1,6 +1,6 @@
-pub mod Answers
-pub mod AnswerRows
 pub mod ChecksumFiles
 pub mod ChecksumRows
 pub mod Digests
 pub mod Fed
+pub mod KeyAnswerRows
+pub mod KeyAnswers

@@ -1,22 +1,18 @@
 //! Checksum files.
 ghost use Rattle.std.specs.Prelude.{◌≡◌, ◌*◌, true, length, IfSome};
+ghost use Rattle.std.specs.List.{list_all};
 ghost use Rattle.std.specs.Option.{option_copied};
-ghost use Rattle.digest_check.specs.ChecksumFiles.{digest_in, first_run, is_digit, from_digits, suffix_of};
-ghost use Rattle.res_base.specs.Plain.{every};
+ghost use Rattle.ascii_bytes.specs.Classes.{is_hex_digit};
+ghost use Rattle.digest_check.specs.ChecksumFiles.{digest_in, first_run, from_digits, suffix_of};
 
+use ascii_bytes::is_hex_digit;
 use res_base::{Check, Digest};
-
-fn is_hex_digit(byte: u8) -> bool
-    ensures { result ≡ is_digit byte }
-{
-    matches!(byte, b'0'..=b'9' | b'A'..=b'F' | b'a'..=b'f')
-}
 
 /// The first maximal run of hexadecimal digits with this length.
 fn find_run(bytes: &[u8], len: usize) -> Option<&[u8]>
     ensures value { option_copied result ≡ first_run len bytes.now }
     ensures len { IfSome result (λ run. length run.now ≡ len) }
-    ensures digits { IfSome result (λ run. every is_digit run.now ≡ true) }
+    ensures digits { IfSome result (λ run. list_all is_hex_digit run.now ≡ true) }
 {
     let mut start = 0;
     for (i, byte) in bytes.iter().enumerate() {
@@ -34,7 +30,7 @@ fn find_run(bytes: &[u8], len: usize) -> Option<&[u8]>
 /// The bytes that pairs of digits stand for.
 fn decode<const N: usize>(digits: &[u8]) -> [u8; N]
     requires len { length digits.now ≡ 2 * N }
-    requires digits { every is_digit digits.now ≡ true }
+    requires digits { list_all is_hex_digit digits.now ≡ true }
     ensures { result ≡ from_digits digits.now }
 {
     let mut digest = [0; N];
@@ -56,7 +52,7 @@ pub fn find_digest(check: Check, bytes: &[u8]) -> Option<Digest>
     }
 }
 
-/// What stands behind a file's URL in the URL of its checksum file. `NoCheck` has no such file, and
+/// What stands after a file's URL in the URL of its checksum file. `NoCheck` has no such file, and
 /// the empty text.
 pub fn suffix(check: Check) -> &'static str
     ensures { result.now ≡ suffix_of check }

@@ -1,11 +1,11 @@
 //! Three digests at once.
-ghost use Rattle.std.specs.Prelude.{◌≡◌, ℕ, List, [], ◌++◌};
-ghost use Rattle.digest_check.specs.Answers.{damage_of};
+ghost use Rattle.std.specs.Prelude.{◌≡◌, ℕ, List, [], ◌++◌, IfOk};
+ghost use Rattle.digest_check.specs.KeyAnswers.{damage_of};
 ghost use Rattle.digest_check.specs.Digests.{digest_by, digest_of, digests_of};
 ghost use Rattle.digest_check.specs.Fed.{IsFed};
 
 use md5::{Digest as Md5Digest, Md5};
-use res_base::{Check, Damage, Digest};
+use res_base::{Check, Damage, Digest, NoMemory};
 use sha1::Sha1;
 use sha2::{Digest as Sha2Digest, Sha256};
 
@@ -45,6 +45,18 @@ impl Sums {
         self.sha1.update(bytes);
         self.md5.update(bytes);
         self.sha256.update(bytes);
+    }
+
+    /// The digests of the bytes that were taken so far. More may be taken afterwards.
+    pub fn so_far(&self) -> Result<Digests, NoMemory>
+        ensures { IfOk result (λ made. (all : List ℕ) → IsFed self.now all → made ≡ digests_of all) }
+    {
+        let sums = Sums {
+            sha1: self.sha1.clone()?,
+            md5: self.md5.clone()?,
+            sha256: self.sha256.clone()?,
+        };
+        Ok(sums.finish())
     }
 
     /// The digests of all bytes that were taken.

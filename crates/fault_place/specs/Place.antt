@@ -1,11 +1,11 @@
 -- Where a text leaves a grammar, which is given by the texts that it accepts.
 use Rattle.std.specs.Prelude.{ℕ, ◌+◌, ◌<◌, ◌≤◌, List, ◌++◌, length, take}
 
--- some rest makes an accepted text of this front
+-- some rest makes an accepted text of this prefix
 abbrev pub GoesOn : (List ℕ → Type 0) → List ℕ → Type 0
-GoesOn accepts front = (rest : List ℕ) × accepts (front ++ rest)
+GoesOn accepts prefix = (rest : List ℕ) × accepts (prefix ++ rest)
 
--- The text is not accepted, and its first `place` bytes are its longest front that goes on.
+-- The text is not accepted, and its first `place` bytes are its longest prefix that goes on.
 pub record IsPlace (accepts : List ℕ → Type 0) (text : List ℕ) (place : ℕ) : Type 0 where
   pub within : place ≤ length text
   pub outside : accepts text → ⊥

@@ -3,18 +3,18 @@ use Rattle.std.specs.Prelude.{◌≡◌, ℕ, suc, List, [], ◌∷◌, ◌++◌
 
 pub record Reader (State Value : Type 0) : Type 1 where
   pub start : State
-  -- the state behind a byte, unless no accepted text has that byte there
+  -- the state after a byte, unless no accepted text has that byte there
   pub step : State → ℕ → Option State
   -- what was read, if the text may end here
   pub outcome : State → Option Value
-  -- what is known of a front that leads to a state
+  -- what is known of a prefix that leads to a state
   pub Fits : State → List ℕ → Type 0
 
 abbrev pub goes_with : {State Value : Type 0} → Option State → (State → Option Value) → Option Value
 goes_with None f = None
 goes_with (Some state) f = f state
 
--- the state behind a run of bytes
+-- the state after a run of bytes
 abbrev pub runs : {State Value : Type 0} → Reader State Value → List ℕ → State → Option State
 runs m [] state = Some state
 runs m (byte ∷ text) state = goes_with (m.step state byte) (runs m text)
@@ -33,10 +33,10 @@ abbrev pub reads_far : {State Value : Type 0} → Reader State Value → List �
 reads_far m [] state = 0
 reads_far m (byte ∷ text) state = one_more (m.step state byte) (reads_far m text)
 
--- behind this front the reader is in this state
-pub record At {State Value : Type 0} (m : Reader State Value) (state : State) (front : List ℕ) : Type 0 where
-  pub fits : m.Fits state front
-  pub reached : runs m front m.start ≡ Some state
+-- after this prefix the reader is in this state
+pub record At {State Value : Type 0} (m : Reader State Value) (state : State) (prefix : List ℕ) : Type 0 where
+  pub fits : m.Fits state prefix
+  pub reached : runs m prefix m.start ≡ Some state
 
 -- the texts of some value
 abbrev pub Accepts : {Value : Type 0} → (List ℕ → Value → Type 0) → List ℕ → Type 0
@@ -44,10 +44,13 @@ Accepts {Value} spells text = (value : Value) × spells text value
 
 pub record IsRight {State Value : Type 0} (m : Reader State Value) (spells : List ℕ → Value → Type 0) : Type 0 where
   pub begins : m.Fits m.start []
-  pub keeps : (state : State) (front : List ℕ) (byte : ℕ) → m.Fits state front → IfSome (m.step state byte) (λ next. m.Fits next (front ++ byte ∷ []))
+  pub keeps : (state : State) (prefix : List ℕ) (byte : ℕ) → m.Fits state prefix
+      → IfSome (m.step state byte) (λ next. m.Fits next (prefix ++ byte ∷ []))
   -- what is read is spelled
-  pub gives : (state : State) (front : List ℕ) (value : Value) → m.Fits state front → m.outcome state ≡ Some value → spells front value
+  pub gives : (state : State) (prefix : List ℕ) (value : Value) → m.Fits state prefix → m.outcome state ≡ Some value
+      → spells prefix value
   -- what is spelled is read
   pub takes : (text : List ℕ) (value : Value) → spells text value → reads m text m.start ≡ Some value
   -- no state is a dead end
-  pub lives : (state : State) (front : List ℕ) → m.Fits state front → (rest : List ℕ) × (value : Value) × (reads m rest state ≡ Some value)
+  pub lives : (state : State) (prefix : List ℕ) → m.Fits state prefix → (rest : List ℕ) × (value : Value)
+      × (reads m rest state ≡ Some value)

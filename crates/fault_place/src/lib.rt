@@ -14,10 +14,12 @@ pub trait Grammar {
     ghost Accepts: { List ℕ → Type 0 };
 }
 
-/// A law, with nothing to run: a text has at most one place in a grammar. Each front of the text
-/// up to that place begins an accepted text, and no longer front does.
+/// A law, with nothing to run: a text has at most one place in a grammar. Each prefix of the text
+/// up to that place begins an accepted text, and no longer prefix does.
 pub fn one_place<G: Grammar>()
     ensures one { (text : List ℕ) (m n : ℕ) → IsPlace G.Accepts text m → IsPlace G.Accepts text n → m ≡ n }
-    ensures goes_on { (text : List ℕ) (place k : ℕ) → IsPlace G.Accepts text place → k ≤ place → GoesOn G.Accepts (take k text) }
-    ensures longest { (text : List ℕ) (place k : ℕ) → IsPlace G.Accepts text place → place < k → k ≤ length text → ¬ GoesOn G.Accepts (take k text) }
+    ensures goes_on { (text : List ℕ) (place k : ℕ)
+        → IsPlace G.Accepts text place → k ≤ place → GoesOn G.Accepts (take k text) }
+    ensures longest { (text : List ℕ) (place k : ℕ)
+        → IsPlace G.Accepts text place → place < k → k ≤ length text → ¬ GoesOn G.Accepts (take k text) }
 {}

@@ -55,16 +55,16 @@ module _ {V : Type 0} (order : V → V → Ordering) where
   is_before (Without a) v = not (is_gt (order v a))
 
   -- on the outer side of an upper end
-  abbrev pub is_behind : End V → V → Bool
-  is_behind Free v = false
-  is_behind (With b) v = is_gt (order v b)
-  is_behind (Without b) v = not (is_lt (order v b))
+  abbrev pub is_after : End V → V → Bool
+  is_after Free v = false
+  is_after (With b) v = is_gt (order v b)
+  is_after (Without b) v = not (is_lt (order v b))
 
   abbrev pub is_below : Interval V → V → Bool
   is_below i v = is_before i.lower v
 
   abbrev pub is_above : Interval V → V → Bool
-  is_above i v = is_behind i.upper v
+  is_above i v = is_after i.upper v
 
   -- on the inner side of both ends
   abbrev pub holds : Interval V → V → Bool

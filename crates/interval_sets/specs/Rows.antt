@@ -36,13 +36,15 @@ included_end_first = refl
 pub free_end_last : ends_cmp nat_cmp (interval Free Free) (interval Free (With 9)) ≡ Greater
 free_end_last = refl
 
-pub touching : meet_of nat_cmp (interval (With 1) (With 2)) (interval (With 2) (Without 3)) ≡ Some (interval (With 2) (With 2))
+pub touching : meet_of nat_cmp (interval (With 1) (With 2)) (interval (With 2) (Without 3))
+    ≡ Some (interval (With 2) (With 2))
 touching = refl
 
 pub apart : meet_of nat_cmp (interval (With 1) (Without 2)) (interval (With 2) (Without 3)) ≡ None
 apart = refl
 
-pub of_three : common nat_cmp (interval (With 1) Free ∷ interval Free (Without 5) ∷ interval (Without 2) (With 7) ∷ []) ≡ interval (Without 2) (Without 5)
+pub of_three : common nat_cmp (interval (With 1) Free ∷ interval Free (Without 5) ∷ interval (Without 2)
+    (With 7) ∷ []) ≡ interval (Without 2) (Without 5)
 of_three = refl
 
 pub below_and_above : is_below nat_cmp (interval (With 2) (With 1)) 1 ≡ is_above nat_cmp (interval (With 2) (With 1)) 2

@@ -1,5 +1,6 @@
+//! Intervals and their ends.
 ghost use Rattle.std.specs.Prelude.{◌≡◌, ◌&&◌, IfOk};
-ghost use Rattle.interval_sets.specs.Intervals.{lower_cmp, upper_cmp, ends_cmp, leaves_nothing, is_empty, is_before, is_behind, is_below, is_above, holds, greater_lower, lesser_upper, meet_of, met_holds};
+ghost use Rattle.interval_sets.specs.Intervals.{lower_cmp, upper_cmp, ends_cmp, leaves_nothing, is_empty, is_before, is_after, is_below, is_above, holds, greater_lower, lesser_upper, meet_of, met_holds};
 
 use super::ranked::{NoMemory, Ranked};
 use std::alloc::Global;
@@ -72,8 +73,8 @@ impl<V: Ranked> End<V> {
         }
     }
 
-    fn has_behind(&self, v: &V) -> bool
-        ensures { result ≡ is_behind V.order self.now v.now }
+    fn has_after(&self, v: &V) -> bool
+        ensures { result ≡ is_after V.order self.now v.now }
     {
         match self {
             End::Free => false,
@@ -129,7 +130,7 @@ impl<V: Ranked> Interval<V> {
     pub fn above(&self, v: &V) -> bool
         ensures { result ≡ is_above V.order self.now v.now }
     {
-        self.upper.has_behind(v)
+        self.upper.has_after(v)
     }
 
     /// Whether a value is below the lower end.
@@ -151,7 +152,8 @@ impl<V: Ranked> Interval<V> {
     /// that is empty.
     pub fn meet(&self, alloc: Global, other: &Interval<V>) -> Result<Option<Interval<V>>, NoMemory>
         ensures value { IfOk result (λ met. met ≡ meet_of V.order self.now other.now) }
-        ensures both { IfOk result (λ met. (v : V) → met_holds V.order met v ≡ (holds V.order self.now v && holds V.order other.now v)) }
+        ensures both { IfOk result (λ met. (v : V)
+            → met_holds V.order met v ≡ (holds V.order self.now v && holds V.order other.now v)) }
     {
         let lower = greatest_lower(&self.lower, &other.lower);
         let upper = least_upper(&self.upper, &other.upper);

@@ -1,8 +1,9 @@
 -- The paths of plain coordinates are paths of files.
 use Rattle.std.proofs.Common.{◌≡◌, ℕ, Bool, true, false, not, ◌&&◌, ◌||◌, ◌==◌, List, [], ◌∷◌, ◌++◌, refl, sym, ◌∙◌, ap, append_assoc, codes, append-nil, ◌⊎◌, inl, inr}
 use Rattle.std.proofs.lemmas.Bool.{eqb-true, false_from_ne_true}
-use Rattle.std.specs.List.{slice_split}
-use Rattle.res_base.specs.Plain.{is_word_byte, is_plain_byte, every, is_dot, goes_on_as_org, is_at_most_two_dots, is_plain_org, is_plain_name, is_plain_coord}
+use Rattle.std.specs.List.{list_all as every, slice_split}
+use Rattle.ascii_bytes.specs.Classes.{is_word_byte, is_plain_byte}
+use Rattle.res_base.specs.Plain.{is_dot, goes_on_as_org, is_at_most_two_dots, is_plain_org, is_plain_name, is_plain_coord}
 use Rattle.res_base.specs.Paths.{slashed, slashed_byte, pom_path_of}
 use Rattle.res_base.specs.declared.coord.Coord.{Coord}
 use Rattle.link_base.specs.FilePaths.{is_segment_byte, is_segment, is_slash, is_file_path}

@@ -1,7 +1,8 @@
 -- Paths of files below a repository's address.
 use Rattle.std.specs.Prelude.{ℕ, Bool, not, ◌&&◌, ◌||◌, ◌==◌, List, IsTrue}
 use Rattle.std.specs.List.{list_all, slice_split}
-use Rattle.res_base.specs.Plain.{is_plain_byte, every, is_at_most_two_dots}
+use Rattle.ascii_bytes.specs.Classes.{is_plain_byte}
+use Rattle.res_base.specs.Plain.{is_at_most_two_dots}
 
 -- A-Z a-z 0-9 . _ - + ~
 abbrev pub is_segment_byte : ℕ → Bool
@@ -9,7 +10,7 @@ is_segment_byte byte = is_plain_byte byte || byte == 126
 
 -- one or more of these bytes, and neither one dot nor two
 abbrev pub is_segment : List ℕ → Bool
-is_segment text = every is_segment_byte text && not (is_at_most_two_dots text)
+is_segment text = list_all is_segment_byte text && not (is_at_most_two_dots text)
 
 abbrev pub is_slash : ℕ → Bool
 is_slash byte = byte == 47

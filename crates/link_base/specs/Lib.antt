@@ -1,4 +1,3 @@
-pub mod Causes
 pub mod FilePaths
 pub mod Links
 pub mod Memory

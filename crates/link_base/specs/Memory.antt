@@ -2,7 +2,7 @@
 use Rattle.std.specs.Prelude.{ℕ, ◌≡◌, ◌==◌, Bool, List, Result, IsErr, IsErrOf, IsTrue}
 use Rattle.std.specs.List.{list_any}
 use Rattle.res_base.specs.World.{at}
-use Rattle.link_base.specs.Causes.{counted}
+use Rattle.res_base.specs.Causes.{counted}
 use Rattle.link_base.specs.Links.{Rows}
 use Rattle.link_base.specs.declared.memory_calls.Calls.{Calls}
 

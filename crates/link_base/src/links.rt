@@ -1,7 +1,7 @@
 //! Links to repositories.
 ghost use Rattle.std.specs.Prelude.{◌≡◌, ◌↔◌, List, ℕ, IfOk, None, IsSome, IsTrue, Option};
 ghost use Rattle.std.specs.Option.{ForSome};
-ghost use Rattle.link_base.specs.Causes.{HasCause, counted};
+ghost use Rattle.res_base.specs.Causes.{HasCause, counted};
 ghost use Rattle.link_base.specs.Links.{Rows, url_of, got_of, FitsLimit, opened_of, file_after_open, file_after_piece, failed_after, url_of_file, IsNext, IsWithinPiece, LinkKept};
 ghost use Rattle.link_base.specs.FilePaths.{IsFilePath};
 ghost use Rattle.link_base.specs.declared.links.OpenFile.{OpenFile};

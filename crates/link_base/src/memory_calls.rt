@@ -1,6 +1,6 @@
 //! The calls of an object in memory.
 ghost use Rattle.std.specs.Prelude.{◌≡◌};
-ghost use Rattle.link_base.specs.Causes.{counted};
+ghost use Rattle.res_base.specs.Causes.{counted};
 
 use res_base::List;
 use std::alloc::Global;

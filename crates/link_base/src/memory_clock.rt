@@ -1,6 +1,6 @@
 //! A clock in memory.
 ghost use Rattle.std.specs.Prelude.{◌≡◌, ◌<◌, length, None, Some};
-ghost use Rattle.link_base.specs.Causes.{counted};
+ghost use Rattle.res_base.specs.Causes.{counted};
 
 use crate::Clock;
 use res_base::List;

@@ -1,7 +1,7 @@
 //! A link in memory.
 ghost use Rattle.std.specs.Prelude.{◌≡◌, [], ◌∷◌, ◌++◌, None, Some, IfOk, IsSome};
 ghost use Rattle.std.specs.Option.{ForSome};
-ghost use Rattle.link_base.specs.Causes.{counted, HasCause};
+ghost use Rattle.res_base.specs.Causes.{counted, HasCause};
 ghost use Rattle.link_base.specs.Links.{Rows, url_of, got_of, FitsLimit, opened_of, file_after_open, file_after_piece, failed_after, url_of_file, IsNext, IsWithinPiece, LinkKept};
 ghost use Rattle.link_base.specs.Memory.{HoldsAs, IsNextCall, is_to_fail, no_calls};
 ghost use Rattle.res_base.specs.World.{at};
@@ -205,7 +205,15 @@ impl Link for MemLink {
         self.reading.is_some()
     }
 
-    fn close_file(&mut self) {
+    fn close_file(&mut self)
+        ensures closed { file_of self.new ≡ None }
+        ensures faults { faults_of self.new ≡ faults_of self.old }
+        ensures asked { asked_of self.new ≡ asked_of self.old }
+        ensures failed { failed_of self.new ≡ failed_of self.old }
+        ensures kept { LinkKept AgreesWith faults_of asked_of failed_of self.old self.new }
+        ensures world { world_of self.new ≡ world_of self.old }
+        ensures calls { calls_of self.new ≡ calls_of self.old }
+    {
         let _closed = self.reading.take();
     }
 }

@@ -1,6 +1,6 @@
 //! Files put together from their pieces.
 ghost use Rattle.std.specs.Prelude.{◌≡◌, None, IfOk};
-ghost use Rattle.link_base.specs.Causes.{HasCause, counted};
+ghost use Rattle.res_base.specs.Causes.{HasCause, counted};
 ghost use Rattle.link_base.specs.FilePaths.{IsFilePath};
 ghost use Rattle.link_base.specs.Links.{Rows, url_of, got_of, FitsLimit, failed_after, LinkKept};
 ghost use Rattle.res_base.specs.World.{at};

@@ -1,6 +1,6 @@
 //! Sinks, where printed bytes go.
 ghost use Rattle.std.specs.Prelude.{◌≡◌, ℕ, List, Option, OnOk, OnErr};
-ghost use Rattle.link_base.specs.Causes.{HasCause};
+ghost use Rattle.res_base.specs.Causes.{HasCause};
 ghost use Rattle.link_base.specs.Sinks.{gained, GainsPrefix};
 ghost use Rattle.link_base.specs.declared.sinks.SinkErr.TheVariants.{NoMemory as wants};
 

@@ -1,7 +1,7 @@
 //! Links to folders.
 ghost use Rattle.std.specs.Prelude.{◌≡◌, ◌≤◌, None};
 ghost use Rattle.std.specs.Option.{option_map};
-ghost use Rattle.link_base.specs.Causes.{counted};
+ghost use Rattle.res_base.specs.Causes.{counted};
 
 use crate::folders::{Found, file_name, find};
 use crate::pieces::{read_next, read_whole};

@@ -9,6 +9,7 @@ pub no_dot : (text : List ℕ) → position_or_len is_dot text ≡ length text �
 no_dot [] e = refl
 no_dot (b ∷ text) e = grind (arith, common_steps, no_dot text)
 
-pub first_dot : (text : List ℕ) → position_or_len is_dot text < length text → slashed text ≡ before_first is_dot text ++ 47 ∷ slashed (after_first is_dot text)
+pub first_dot : (text : List ℕ) → position_or_len is_dot text < length text
+    → slashed text ≡ before_first is_dot text ++ 47 ∷ slashed (after_first is_dot text)
 first_dot [] h = absurd (omega (arith, h))
 first_dot (b ∷ text) h = grind (arith, common_steps, first_dot text)

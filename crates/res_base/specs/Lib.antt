@@ -1,7 +1,9 @@
 pub mod Builders
+pub mod Causes
 pub mod CoordReader
 pub mod CoordText
 pub mod Known
+pub mod Members
 pub mod Names
 pub mod Paths
 pub mod Plain

@@ -40,8 +40,10 @@ abbrev pub role_cmp : Role → Role → Ordering
 role_cmp = on role_number nat_cmp
 
 abbrev pub key_eq : FileKey → FileKey → Bool
-key_eq = eq_of_both (eq_of_both (on (λ key. key.repo) nat_eq) (on (λ key. key.path) text_eq)) (on (λ key. key.role) role_eq)
+key_eq = eq_of_both (eq_of_both (on (λ key. key.repo) nat_eq) (on (λ key. key.path) text_eq))
+    (on (λ key. key.role) role_eq)
 
 -- by repository, then by path, then by role
 abbrev pub key_cmp : FileKey → FileKey → Ordering
-key_cmp = then_cmp (then_cmp (on (λ key. key.repo) nat_cmp) (on (λ key. key.path) text_cmp)) (on (λ key. key.role) role_cmp)
+key_cmp = then_cmp (then_cmp (on (λ key. key.repo) nat_cmp) (on (λ key. key.path) text_cmp))
+    (on (λ key. key.role) role_cmp)

@@ -13,13 +13,15 @@ use Rattle.res_base.specs.declared.reading.Reading.TheVariants.{Absent, TooLarge
 
 -- paths
 
-pom_row : pom_path_of (coord_of (codes "org.apache.commons") (codes "commons-io") (codes "2.6")) ≡ codes "org/apache/commons/commons-io/2.6/commons-io-2.6.pom"
+pom_row : pom_path_of (coord_of (codes "org.apache.commons") (codes "commons-io") (codes "2.6"))
+    ≡ codes "org/apache/commons/commons-io/2.6/commons-io-2.6.pom"
 pom_row = refl
 
 jar_row : file_path_of (coord_of (codes "x") (codes "a") (codes "1")) (codes "jar") [] ≡ codes "x/a/1/a-1.jar"
 jar_row = refl
 
-classifier_row : file_path_of (coord_of (codes "x.y") (codes "a") (codes "1")) (codes "jar") (codes "sources") ≡ codes "x/y/a/1/a-1-sources.jar"
+classifier_row : file_path_of (coord_of (codes "x.y") (codes "a") (codes "1")) (codes "jar") (codes "sources")
+    ≡ codes "x/y/a/1/a-1-sources.jar"
 classifier_row = refl
 
 listing_row : listing_path_of (module_of (codes "x.y") (codes "a.b")) ≡ codes "x/y/a.b/maven-metadata.xml"
@@ -93,13 +95,15 @@ key_role_row = refl
 
 -- worlds and what is known
 
-first_row : at (row_of (codes "http://r1/a") (codes "one") ∷ row_of (codes "http://r1/a") (codes "two") ∷ []) (codes "http://r1/a") ≡ Some (codes "one")
+first_row : at (row_of (codes "http://r1/a") (codes "one") ∷ row_of (codes "http://r1/a") (codes "two") ∷ [])
+    (codes "http://r1/a") ≡ Some (codes "one")
 first_row = refl
 
 absent_row : at (row_of (codes "http://r1/a") (codes "one") ∷ []) (codes "http://r1/") ≡ None
 absent_row = refl
 
-known_row : known_of ((key_of 0 Pom (codes "a"), Absent) ∷ (key_of 1 Pom (codes "a"), TooLarge) ∷ []) (key_of 1 Pom (codes "a")) ≡ Some TooLarge
+known_row : known_of ((key_of 0 Pom (codes "a"), Absent) ∷ (key_of 1 Pom (codes "a"), TooLarge) ∷ [])
+    (key_of 1 Pom (codes "a")) ≡ Some TooLarge
 known_row = refl
 
 unknown_row : known_of ((key_of 0 Pom (codes "a"), Absent) ∷ []) (key_of 0 Listing (codes "a")) ≡ None

@@ -1,13 +1,15 @@
 //! Coordinates in text.
 ghost use Rattle.std.specs.Prelude.{◌≡◌, ℕ, ◌+◌, ◌<◌, [], Some, None, length, take, drop, slice_range, slice_index, IfOk, IfErr, IsErrOf};
+ghost use Rattle.ascii_bytes.specs.Signs.{colon};
 ghost use Rattle.fault_place.specs.Place.{IsPlace};
 ghost use Rattle.fault_place.specs.Reader.{At, Accepts};
-ghost use Rattle.res_base.specs.CoordText.{is_constraint_byte as constraint_byte_test, IsCoordText};
+ghost use Rattle.res_base.specs.CoordText.{is_constraint_byte, IsCoordText};
 ghost use Rattle.res_base.specs.Builders.{coord_of};
 ghost use Rattle.res_base.specs.CoordReader.{coord_in, coord_reader, in_name, in_constraint};
 
-use crate::plain::{is_plain_byte, is_plain_name, is_word_byte};
+use crate::plain::is_plain_name;
 use crate::{Coord, Module, NoMemory, Text};
+use ascii_bytes::{is_plain_byte, is_word_byte};
 use std::alloc::Global;
 
 /// Why a text gave no coordinate.
@@ -29,15 +31,16 @@ impl From<NoMemory> for CoordErr {
 }
 
 fn is_constraint_byte(byte: u8) -> bool
-    ensures { result ≡ constraint_byte_test byte }
+    ensures { result ≡ is_constraint_byte byte }
 {
     is_plain_byte(byte) || matches!(byte, b'[' | b']' | b'(' | b')' | b',')
 }
 
-/// The place of the colon behind the org, or the place where the text leaves the grammar.
+/// The place of the colon after the org, or the place where the text leaves the grammar.
 fn org_end(text: &[u8]) -> Result<usize, usize>
-    ensures colon { IfOk result (λ i. slice_index text.now i ≡ 58) }
-    ensures found { IfOk result (λ i. (i < length text.now) × At coord_reader (in_name (take i text.now) []) (take (i + 1) text.now)) }
+    ensures colon { IfOk result (λ i. slice_index text.now i ≡ colon) }
+    ensures within { IfOk result (λ i. i < length text.now) }
+    ensures found { IfOk result (λ i. At coord_reader (in_name (take i text.now) []) (take (i + 1) text.now)) }
     ensures refused { IfErr result (IsPlace (Accepts IsCoordText) text.now) }
 {
     let mut in_part = false;
@@ -55,12 +58,15 @@ fn org_end(text: &[u8]) -> Result<usize, usize>
     Err(text.len())
 }
 
-/// The place of the colon behind the name, likewise.
+/// The place of the colon after the name, likewise.
 fn name_end(text: &[u8], first: usize) -> Result<usize, usize>
     requires within { first < length text.now }
     requires begun { At coord_reader (in_name (take first text.now) []) (take (first + 1) text.now) }
-    ensures colon { IfOk result (λ j. slice_index text.now j ≡ 58) }
-    ensures found { IfOk result (λ j. (first < j) × (j < length text.now) × At coord_reader (in_constraint (take first text.now) (slice_range text.now (first + 1) j) []) (take (j + 1) text.now)) }
+    ensures colon { IfOk result (λ j. slice_index text.now j ≡ colon) }
+    ensures after { IfOk result (λ j. first < j) }
+    ensures within { IfOk result (λ j. j < length text.now) }
+    ensures found { IfOk result (λ j. let name = slice_range text.now (first + 1) j in
+        At coord_reader (in_constraint (take first text.now) name []) (take (j + 1) text.now)) }
     ensures refused { IfErr result (IsPlace (Accepts IsCoordText) text.now) }
 {
     for j in first + 1..text.len() {
@@ -81,8 +87,10 @@ fn name_end(text: &[u8], first: usize) -> Result<usize, usize>
 /// Whether the rest is a constraint text; else the place where the text leaves the grammar.
 fn constraint_end(text: &[u8], first: usize, second: usize) -> Result<(), usize>
     requires within { second < length text.now }
-    requires begun { At coord_reader (in_constraint (take first text.now) (slice_range text.now (first + 1) second) []) (take (second + 1) text.now) }
-    ensures found { IfOk result (λ _. IsCoordText text.now (coord_of (take first text.now) (slice_range text.now (first + 1) second) (drop (second + 1) text.now))) }
+    requires begun { let name = slice_range text.now (first + 1) second in
+        At coord_reader (in_constraint (take first text.now) name []) (take (second + 1) text.now) }
+    ensures found { IfOk result (λ _. let name = slice_range text.now (first + 1) second in
+        IsCoordText text.now (coord_of (take first text.now) name (drop (second + 1) text.now))) }
     ensures refused { IfErr result (IsPlace (Accepts IsCoordText) text.now) }
 {
     for k in second + 1..text.len() {

@@ -5,6 +5,7 @@
 mod coord;
 mod coord_text;
 mod key;
+mod laws;
 mod list;
 mod memory;
 mod paths;
@@ -20,6 +21,7 @@ mod world;
 pub use coord::{Coord, Module};
 pub use coord_text::{CoordErr, parse_coord};
 pub use key::{FileKey, Role};
+pub use laws::{equality_decided, keys_counted, known_grows, known_pairs};
 pub use list::List;
 pub use memory::{Copied, NoMemory};
 pub use paths::{file_path, listing_path, paths_apart, pom_path, url_of};

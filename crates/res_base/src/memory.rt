@@ -1,9 +1,9 @@
-//! Want of memory, and copies.
+//! Memory that ran out, and copies.
 ghost use Rattle.std.specs.Prelude.{◌≡◌, IfOk};
 
 use std::alloc::{AllocError, AllocFailed, Global};
 
-/// Memory was wanting. It is the one error that no clause ties to a cause.
+/// Out of memory: the one error that no clause ties to a cause.
 #[derive(Clone, Copy, Debug, PartialEq, Eq, Drop)]
 pub struct NoMemory;
 

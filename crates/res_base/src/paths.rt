@@ -1,16 +1,19 @@
 //! Where a repository keeps its files: the Maven 2 repository layout.
 ghost use Rattle.std.specs.Prelude.{◌≡◌, ◌<◌, ◌∷◌, ◌++◌, length, true, IfOk, IfSome, MatchOption};
+ghost use Rattle.ascii_bytes.specs.Signs.{slash};
 ghost use Rattle.res_base.specs.Plain.{is_plain_coord, is_plain_module};
 ghost use Rattle.res_base.specs.declared.coord.Coord.{Coord};
 ghost use Rattle.res_base.specs.declared.coord.Module.{Module};
-ghost use Rattle.res_base.specs.Paths.{dash_of, file_path_of, listing_path_of, pom_path_of, slashed as slashed_text, url_at};
+ghost use Rattle.res_base.specs.Paths.{dash_of, file_path_of, listing_path_of, pom_path_of, slashed, url_at};
 
 use crate::{Coord, Module, NoMemory, Text};
 use std::alloc::Global;
 
-/// What stands before and behind the first dot.
+/// What stands before and after the first dot.
 fn split_at_dot(text: &str) -> Option<(&str, &str)>
-    ensures parts { MatchOption result (slashed_text text.now ≡ text.now) (λ parts. slashed_text text.now ≡ parts.0.now ++ 47 ∷ slashed_text parts.1.now) }
+    ensures parts { MatchOption result
+        (slashed text.now ≡ text.now)
+        (λ parts. slashed text.now ≡ parts.0.now ++ slash ∷ slashed parts.1.now) }
     ensures shorter { IfSome result (λ parts. length parts.1.now < length text.now) }
 {
     text.split_once('.')
@@ -18,14 +21,14 @@ fn split_at_dot(text: &str) -> Option<(&str, &str)>
 
 /// A text with a slash for each dot, as the folder of an org.
 fn slashed(alloc: Global, org: &str) -> Result<Text, NoMemory>
-    ensures { IfOk result (λ folder. folder ≡ slashed_text org.now) }
+    ensures { IfOk result (λ folder. folder ≡ slashed org.now) }
 {
     let mut folder = Text::new(alloc);
     let mut rest = org;
-    while let Some((part, behind)) = split_at_dot(rest) {
+    while let Some((part, after)) = split_at_dot(rest) {
         folder.push_str(part)?;
         folder.push_str("/")?;
-        rest = behind;
+        rest = after;
     }
     folder.push_str(rest)?;
     Ok(folder)
@@ -94,6 +97,8 @@ pub fn url_of(alloc: Global, address: &str, path: &str) -> Result<Text, NoMemory
 /// A law, with nothing to run: two plain coordinates have two POM paths, and two plain modules two
 /// paths of listings.
 pub fn paths_apart()
-    ensures poms { (c d : Coord) → is_plain_coord c ≡ true → is_plain_coord d ≡ true → pom_path_of c ≡ pom_path_of d → c ≡ d }
-    ensures listings { (m n : Module) → is_plain_module m ≡ true → is_plain_module n ≡ true → listing_path_of m ≡ listing_path_of n → m ≡ n }
+    ensures poms { (c d : Coord) → is_plain_coord c ≡ true → is_plain_coord d ≡ true
+        → pom_path_of c ≡ pom_path_of d → c ≡ d }
+    ensures listings { (m n : Module) → is_plain_module m ≡ true → is_plain_module n ≡ true
+        → listing_path_of m ≡ listing_path_of n → m ≡ n }
 {}

@@ -1,30 +1,16 @@
 //! Which texts may stand in a path of a repository.
 ghost use Rattle.std.specs.Prelude.{◌≡◌};
-ghost use Rattle.res_base.specs.Plain.{every, is_at_most_two_dots, is_plain_byte as plain_byte_test, is_plain_coord, is_plain_name as plain_name_test, is_plain_org as plain_org_test, is_word_byte as word_byte_test};
+ghost use Rattle.std.specs.List.{list_all};
+ghost use Rattle.ascii_bytes.specs.Classes.{is_plain_byte};
+ghost use Rattle.res_base.specs.Plain.{is_at_most_two_dots, is_plain_coord, is_plain_name, is_plain_org};
 
 use crate::Coord;
-
-pub(crate) fn is_word_byte(byte: u8) -> bool
-    ensures { result ≡ word_byte_test byte }
-{
-    matches!(byte, b'A'..=b'Z' | b'a'..=b'z' | b'0'..=b'9' | b'_' | b'-')
-}
-
-pub(crate) fn is_plain_byte(byte: u8) -> bool
-    ensures { result ≡ plain_byte_test byte }
-{
-    is_word_byte(byte) || byte == b'.' || byte == b'+'
-}
+use ascii_bytes::{is_plain_byte, is_word_byte};
 
 fn has_plain_bytes(text: &[u8]) -> bool
-    ensures { result ≡ every plain_byte_test text.now }
+    ensures { result ≡ list_all is_plain_byte text.now }
 {
-    for byte in text {
-        if !is_plain_byte(*byte) {
-            return false;
-        }
-    }
-    true
+    text.iter().all(|byte| is_plain_byte(*byte))
 }
 
 fn is_dots(text: &[u8]) -> bool
@@ -35,14 +21,14 @@ fn is_dots(text: &[u8]) -> bool
 
 /// One or more of `A-Z a-z 0-9 . _ - +`, and neither `.` nor `..`.
 pub(crate) fn is_plain_name(text: &[u8]) -> bool
-    ensures { result ≡ plain_name_test text.now }
+    ensures { result ≡ is_plain_name text.now }
 {
     has_plain_bytes(text) && !is_dots(text)
 }
 
 /// One or more parts with a dot between two, each of one or more of `A-Z a-z 0-9 _ -`.
 pub(crate) fn is_plain_org(text: &[u8]) -> bool
-    ensures { result ≡ plain_org_test text.now }
+    ensures { result ≡ is_plain_org text.now }
 {
     let mut in_part = false;
     for byte in text {

@@ -6,9 +6,20 @@ use Rattle.ascii_bytes.proofs.Numbers.{room}
 use Rattle.ascii_bytes.proofs.digits.decimal.Goals as goal
 
 pub overflow_mul-number : goal.overflow_mul-number
-overflow_mul-number c = omega (arith, room c.loop-byte.number c.loop-byte.byte-index (omega arith) c.loop-byte.invariant.small)
+overflow_mul-number c = omega (
+  arith,
+  room c.loop-byte.number c.loop-byte.byte-index
+      (omega arith) c.loop-byte.invariant.small,
+)
 
 pub overflow_add-number : goal.overflow_add-number
 overflow_add-number c =
-    let digit = AllPass-from_list_all is_digit c.args.text.now c.requires.digits c.loop-byte.byte-index 0 c.loop-byte-test.true in
-    grind (arith, nat_tests, digit, room c.loop-byte.number c.loop-byte.byte-index (omega arith) c.loop-byte.invariant.small)
+    let digit = AllPass-from_list_all is_digit c.args.text.now c.requires.digits c.loop-byte.byte-index 0
+    c.loop-byte-test.true in
+    grind (
+      arith,
+      nat_tests,
+      digit,
+      room c.loop-byte.number c.loop-byte.byte-index
+          (omega arith) c.loop-byte.invariant.small,
+    )

@@ -1,5 +1,5 @@
 use Rattle.std.proofs.Common.{◌≡◌, drop}
-use Rattle.res_base.specs.Plain.{every}
+use Rattle.std.specs.List.{list_all as every}
 use Rattle.link_base.specs.FilePaths.{is_segment_byte}
 use Rattle.coursier_run.proofs.address.has_segment_bytes.Given as goal
 

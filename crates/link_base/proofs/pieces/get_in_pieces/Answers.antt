@@ -49,7 +49,7 @@ pieces-preserved g c =
       begins = λ w agrees.
           let next = rw c.in-Piece.is at (after.answer w (before.kept.agreement w agrees) file before.opened) in
           rw items (begins_further file (at w url) c.pieces.bytes.items c.next_piece.new.into.items (before.begins w agrees) refl next);
-      faults = omega (arith, before.faults, after.cause.later);
+      faults = after.cause.quiet (λ e. let no : ⊥ = cc in no) ∙ before.faults;
       asked = after.asked ∙ before.asked;
       failed = after.failed ∙ before.failed;
       kept = kept_trans link.agrees link.faults link.asked link.failed_urls _ _ _ before.kept after.kept;

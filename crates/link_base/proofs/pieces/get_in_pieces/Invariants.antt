@@ -1,7 +1,7 @@
 -- The pieces so far are the first bytes of the file, and the link kept what every call keeps.
 use Rattle.std.proofs.Common.{◌≡◌, ◌-◌, ◌≤◌, Some, length}
 use Rattle.res_base.specs.World.{at}
-use Rattle.link_base.specs.Causes.{counted}
+use Rattle.res_base.specs.Causes.{counted}
 use Rattle.link_base.specs.Links.{Rows, url_of, LinkKept}
 use Rattle.link_base.specs.Pieces.{BeginsFile}
 use Rattle.link_base.proofs.pieces.get_in_pieces.Given as goal
@@ -14,7 +14,7 @@ invariant-pieces g l =
       opened : link.open_file l.link ≡ Some (record { url = url; limit = l.limit; given = length l.bytes.items });
       within : length l.bytes.items ≤ l.limit;
       begins : (w : Rows) → link.agrees l.fn.link w → BeginsFile (at w url) l.bytes.items;
-      faults : link.faults l.fn.link ≤ link.faults l.link;
+      faults : link.faults l.link ≡ link.faults l.fn.link;
       asked : link.asked l.link ≡ counted (link.asked l.fn.link);
       failed : link.failed_urls l.link ≡ link.failed_urls l.fn.link;
       kept : LinkKept link.agrees link.faults link.asked link.failed_urls l.fn.link l.link;

@@ -10,12 +10,15 @@ returns-then-not-is_constraint_byte-clause-refused c =
     let name = slice_range c.args.text.now (c.args.first + 1) c.args.second in
     let begun = slice_range c.args.text.now (c.args.second + 1) c.loop-k.k in
     stops c.args.text.now c.loop-k.k (in_constraint org name begun) c.loop-k-test.true c.loop-k.invariant
-    (constraint_stuck org name begun (get_or c.args.text.now c.loop-k.k 0) (sym c.is_constraint_byte.ensures ∙ c.if-not-is_constraint_byte.true))
+    (constraint_stuck org name begun (get_or c.args.text.now c.loop-k.k 0)
+    (sym c.is_constraint_byte.ensures ∙ c.if-not-is_constraint_byte.true))
 
 pub loop-k-preserved : goal.loop-k-preserved
 loop-k-preserved c =
     let from : c.args.second + 1 ≤ c.loop-k.k = omega arith in
-    in_constraint_more c.args.text.now (take c.args.first c.args.text.now) (slice_range c.args.text.now (c.args.first + 1) c.args.second) (c.args.second + 1) c.loop-k.k from c.loop-k-test.true c.loop-k.invariant
+    in_constraint_more c.args.text.now (take c.args.first c.args.text.now)
+    (slice_range c.args.text.now (c.args.first + 1) c.args.second)
+    (c.args.second + 1) c.loop-k.k from c.loop-k-test.true c.loop-k.invariant
     (sym c.is_constraint_byte.ensures ∙ c.if-not-is_constraint_byte.false)
 
 pub returns-then-second-text-clause-refused : goal.returns-then-second-text-clause-refused

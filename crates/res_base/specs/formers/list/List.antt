@@ -37,15 +37,19 @@ the_items_listed X items = list-listed X items
 
 -- the one field
 abbrev inside : Former {0}
-inside = via (of_vec.the_former this Global) Inside (λ X it. it.items) (λ X v. record { items = v }) (λ X it. refl) (λ X v. refl)
+inside = via (of_vec.the_former this Global) Inside (λ X it. it.items) (λ X v. record { items = v }) (λ X it. refl)
+    (λ X v. refl)
 
 module _ (R R' : RattleType) (h : R.Denot → R'.Denot) where
   pub the_places : Alike R R' h → Alike (seen.the_row R) (seen.the_row R') ((the_former this).map R.Denot R'.Denot h)
   the_places alike =
-      let stored_alike = struct_places (stored.the_type R) (stored.the_type R') (of_vec.mapped h, tt) _ (λ it. refl) refl (laid _ _ _ (of_vec.the_places allocator.the_row ghosts R R' h alike), tt) in
-      view_places inside (list this) view (λ X Y k u. refl) (λ X u. refl) R.Denot R'.Denot h (seen.the_row R).coded (seen.the_row R').coded
+      let stored_alike = struct_places (stored.the_type R) (stored.the_type R') (of_vec.mapped h, tt) _
+      (λ it. refl) refl (laid _ _ _ (of_vec.the_places allocator.the_row ghosts R R' h alike), tt) in
+      view_places inside (list this) view (λ X Y k u. refl) (λ X u. refl) R.Denot R'.Denot h (seen.the_row R).coded
+      (seen.the_row R').coded
       (invariant R.Denot) (invariant R'.Denot) (λ u p q. refl) (λ u p q. refl) (λ u e. tt) (λ u e. tt)
       (over (stored.the_row R)) (over (stored.the_row R')) stored_alike
 
-  pub the_codes_placed : Recodes R R' h → Recodes (seen.the_row R) (seen.the_row R') ((the_former this).map R.Denot R'.Denot h)
+  pub the_codes_placed : Recodes R R' h → Recodes (seen.the_row R) (seen.the_row R')
+      ((the_former this).map R.Denot R'.Denot h)
   the_codes_placed same items = sym (code_map R.coded.code R'.coded.code h (λ x. sym (same x)) items)

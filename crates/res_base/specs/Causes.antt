@@ -1,5 +1,5 @@
 -- Counts of faults, and what a fault rests on.
-use Rattle.std.specs.Prelude.{ℕ, ◌+◌, ◌-◌, ◌^◌, ◌≤◌, min, max, Result, IsErrOf}
+use Rattle.std.specs.Prelude.{ℕ, ◌≡◌, ◌+◌, ◌-◌, ◌^◌, ◌≤◌, min, max, Result, IsErrOf}
 
 -- the greatest value of a count
 abbrev pub count_end : ℕ
@@ -13,7 +13,8 @@ counted n = max n (min (n + 1) count_end)
 abbrev pub Rose : ℕ → ℕ → Type 0
 Rose before now = min (before + 1) count_end ≤ now
 
--- a count of faults does not fall in a call, and the fault is answered only where it rose
+-- A count of faults in a call: the fault is answered only where the count rose, and otherwise the count is as before.
 pub record HasCause {T E : Type 0} (fault : E) (before now : ℕ) (result : Result T E) : Type 0 where
   pub later : before ≤ now
   pub failed : IsErrOf result fault → Rose before now
+  pub quiet : ¬ IsErrOf result fault → now ≡ before

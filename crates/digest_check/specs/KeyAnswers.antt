@@ -14,6 +14,7 @@ use Rattle.res_base.specs.declared.reading.Damage.{Damage}
 use Rattle.res_base.specs.declared.reading.Digest.{Digest}
 use Rattle.res_base.specs.declared.world.WorldRow.{WorldRow}
 use Rattle.digest_check.specs.ChecksumFiles.{digest_in, suffix_of}
+use Rattle.digest_check.specs.declared.limits.TheConstants.{CHECKSUM_LIMIT, TEXT_LIMIT}
 use Rattle.digest_check.specs.Digests.{digest_eq, digest_of}
 
 -- what stands at each URL
@@ -22,7 +23,7 @@ Held = List ℕ → Option (List ℕ)
 
 -- the greatest length of a checksum file
 abbrev pub checksum_limit : ℕ
-checksum_limit = 65536
+checksum_limit = CHECKSUM_LIMIT
 
 -- the digest in a file, unless it is too long
 abbrev pub in_short_file : Check → List ℕ → Option Digest
@@ -34,7 +35,8 @@ wanted held url check = option_and_then (in_short_file check) (held (url ++ suff
 
 -- the damage where bytes do not have the digest that a check wants
 abbrev pub damage_of : Check → Digest → Option Digest → Option Damage
-damage_of check digest got = if option_eq digest_eq got (Some digest) then None else Some (record { check = check; wanted = Some digest; got = got })
+damage_of check digest got = if option_eq digest_eq got (Some digest) then None else Some
+    (record { check = check; wanted = Some digest; got = got })
 
 abbrev pub unless_damaged : Option Damage → List ℕ → Answer
 unless_damaged None bytes = answers.Bytes bytes
@@ -49,7 +51,8 @@ decided check (Some digest) got bytes later = unless_damaged (damage_of check di
 abbrev pub checked : Held → List ℕ → List ℕ → List Check → Answer
 checked held url bytes [] = answers.Damaged (record { check = checks.NoCheck; wanted = None; got = None })
 checked held url bytes (checks.NoCheck ∷ rest) = answers.Bytes bytes
-checked held url bytes (check ∷ rest) = decided check (wanted held url check) (digest_of check bytes) bytes (checked held url bytes rest)
+checked held url bytes (check ∷ rest) = decided check (wanted held url check) (digest_of check bytes) bytes
+    (checked held url bytes rest)
 
 abbrev pub within_limit : ℕ → List ℕ → Answer → Answer
 within_limit limit bytes answer = if nat_lt limit (length bytes) then answers.TooLarge else answer
@@ -64,7 +67,7 @@ answer_at held list limit url = of_bytes held list limit url (held url)
 
 -- the greatest length of a POM or a listing
 abbrev pub text_limit : ℕ
-text_limit = 16777216
+text_limit = TEXT_LIMIT
 
 abbrev pub limit_of : Role → ℕ → ℕ
 limit_of roles.Artifact limit = limit
