@@ -1,5 +1,5 @@
 -- What exclusions leave out, as the Maven POM reference has them, with `*` for every org or name.
-use Rattle.std.specs.Prelude.{ℕ, Bool, not, ◌&&◌, ◌||◌, List, ◌++◌, codes, filter}
+use Rattle.std.specs.Prelude.{ℕ, Bool, not, ◌&&◌, ◌||◌, List, [], ◌++◌, codes, filter}
 use Rattle.std.specs.List.{list_any, list_all}
 use Rattle.res_base.specs.Names.{text_eq}
 use Rattle.res_base.specs.declared.coord.Module.{Module}
@@ -16,6 +16,10 @@ covers rule org name = stands_for rule.org org && stands_for rule.name name
 
 abbrev pub some_covers : List Exclusion → List ℕ → List ℕ → Bool
 some_covers rules org name = list_any (λ rule. covers rule org name) rules
+
+-- no rules, which leave out nothing
+abbrev pub no_rules : ExclSet
+no_rules = record { rules = [] }
 
 -- some rule matches the module
 abbrev pub is_excluded : ExclSet → Module → Bool

@@ -1,4 +1,4 @@
-pub mod Answers
+pub mod Additions
 pub mod Exclusions
 pub mod Kept
 pub mod Minimal

@@ -1,7 +1,7 @@
 //! Sets of exclusions of which none is within another.
-ghost use Rattle.std.specs.Prelude.{◌≡◌, ℕ, ◌<◌, [], OnOk, OnErr};
+ghost use Rattle.std.specs.Prelude.{◌≡◌, ◌↔◌, ℕ, ◌<◌, [], IsTrue, OnOk, OnErr};
 ghost use Rattle.exclusion_sets.specs.Minimal.{IsMinimal, covering_place, without_covered, sets_after};
-ghost use Rattle.exclusion_sets.specs.Answers.{answer_at};
+ghost use Rattle.exclusion_sets.specs.Additions.{answer_at};
 
 use super::ExclSet;
 use res_base::{List, NoMemory};
@@ -16,6 +16,13 @@ pub enum Added {
     Added,
     /// The set at this place, and none before it, is within the new one.
     Covered(usize),
+}
+
+/// Whether two answers are one.
+pub fn is_same_added(one: Added, other: Added) -> bool
+    ensures { IsTrue result ↔ (one ≡ other) }
+{
+    one == other
 }
 
 /// The least sets of those that were added: a set goes as soon as one comes that is within it.

@@ -1,6 +1,6 @@
 //! Sets of exclusions.
-ghost use Rattle.std.specs.Prelude.{◌≡◌, ◌∷◌, [], ◌++◌, ◌||◌, not, filter, IfOk, OnOk};
-ghost use Rattle.exclusion_sets.specs.Exclusions.{covers as covering, is_covered, is_excluded, is_within, join_of, stands_for as standing_for};
+ghost use Rattle.std.specs.Prelude.{◌≡◌, ◌↔◌, ◌∷◌, [], ◌++◌, ◌||◌, not, filter, IfOk, IsTrue, OnOk};
+ghost use Rattle.exclusion_sets.specs.Exclusions.{covers, is_covered, is_excluded, is_within, join_of, stands_for};
 ghost use Rattle.res_base.specs.declared.coord.Module.{Module};
 
 use res_base::{Copied, Exclusion, List, Module, NoMemory, Text};
@@ -12,15 +12,28 @@ pub struct ExclSet {
     pub rules: List<Exclusion>,
 }
 
+fn is_same_rules(one: &[Exclusion], other: &[Exclusion]) -> bool
+    ensures { IsTrue result ↔ (one.now ≡ other.now) }
+{
+    one == other
+}
+
+/// Whether two sets have the same rules in the same order.
+pub fn is_same_set(one: &ExclSet, other: &ExclSet) -> bool
+    ensures { IsTrue result ↔ (one.now ≡ other.now) }
+{
+    is_same_rules(one.rules.as_slice(), other.rules.as_slice())
+}
+
 /// `*` stands for every text, and another text for itself.
 fn stands_for(pattern: &Text, text: &Text) -> bool
-    ensures { result ≡ standing_for pattern.now text.now }
+    ensures { result ≡ stands_for pattern.now text.now }
 {
     pattern.as_str() == "*" || pattern.as_str() == text.as_str()
 }
 
 fn covers(rule: &Exclusion, org: &Text, name: &Text) -> bool
-    ensures { result ≡ covering rule.now org.now name.now }
+    ensures { result ≡ covers rule.now org.now name.now }
 {
     stands_for(&rule.org, org) && stands_for(&rule.name, name)
 }

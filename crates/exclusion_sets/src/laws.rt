@@ -1,8 +1,9 @@
 //! Laws of sets of exclusions, as functions with nothing to run.
-ghost use Rattle.std.specs.Prelude.{◌≡◌, true, false, ◌||◌, List};
+ghost use Rattle.std.specs.Prelude.{◌≡◌, true, false, not, ◌||◌, ◌⊎◌, List};
+ghost use Rattle.std.specs.List.{IsAmong};
 ghost use Rattle.exclusion_sets.specs.declared.excl_set.ExclSet.{ExclSet};
-ghost use Rattle.exclusion_sets.specs.Exclusions.{is_excluded, is_within, join_of};
-ghost use Rattle.exclusion_sets.specs.Minimal.{IsMinimal, sets_after};
+ghost use Rattle.exclusion_sets.specs.Exclusions.{is_excluded, is_within, join_of, no_rules};
+ghost use Rattle.exclusion_sets.specs.Minimal.{IsMinimal, has_within, is_passed, sets_after, without_covered};
 ghost use Rattle.res_base.specs.declared.coord.Module.{Module};
 
 /// "Is within" is reflexive and transitive, and what is within excludes no more.
@@ -23,7 +24,24 @@ pub fn join_laws()
     ensures widens { (a b c : ExclSet) → is_within a b ≡ true → is_within (join_of a c) (join_of b c) ≡ true }
 {}
 
-/// Of sets none of which is within another none is after an addition.
+/// The set without rules excludes nothing, is within each set, and adds nothing to a set.
+pub fn no_rules_laws()
+    ensures excludes { (m : Module) → is_excluded no_rules m ≡ false }
+    ensures least { (a : ExclSet) → is_within no_rules a ≡ true }
+    ensures left { (a : ExclSet) → join_of no_rules a ≡ a }
+    ensures right { (a : ExclSet) → join_of a no_rules ≡ a }
+{}
+
+/// What an addition to a collection of sets keeps.
+///
+/// Of sets none of which is within another none is after it. Some set is then within a third one,
+/// or lets a module through, exactly where one did before or the new one does. No set is there that
+/// was not there before and is not the new one.
 pub fn kept_laws()
-    ensures { (sets : List ExclSet) (set : ExclSet) → IsMinimal sets → IsMinimal (sets_after sets set) }
+    ensures minimal { (sets : List ExclSet) (set : ExclSet) → IsMinimal sets → IsMinimal (sets_after sets set) }
+    ensures within { (sets : List ExclSet) (set wide : ExclSet) → has_within (sets_after sets set) wide ≡ (has_within sets wide || is_within set wide) }
+    ensures passes { (sets : List ExclSet) (set : ExclSet) (m : Module) → is_passed (sets_after sets set) m ≡ (is_passed sets m || not (is_excluded set m)) }
+    ensures among { (sets : List ExclSet) (set one : ExclSet) → IsAmong (sets_after sets set) one → IsAmong sets one ⊎ (one ≡ set) }
+    ensures covered { (sets : List ExclSet) (set : ExclSet) → has_within sets set ≡ true → sets_after sets set ≡ sets }
+    ensures added { (sets : List ExclSet) (set : ExclSet) → has_within sets set ≡ false → sets_after sets set ≡ without_covered sets set }
 {}

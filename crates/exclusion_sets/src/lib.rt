@@ -7,6 +7,6 @@ mod laws;
 #[cfg(test)]
 mod tests;
 
-pub use antichain::{Added, Antichain};
-pub use excl_set::ExclSet;
-pub use laws::{join_laws, kept_laws, within_laws};
+pub use antichain::{Added, Antichain, is_same_added};
+pub use excl_set::{ExclSet, is_same_set};
+pub use laws::{join_laws, kept_laws, no_rules_laws, within_laws};

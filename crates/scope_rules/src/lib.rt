@@ -5,4 +5,4 @@ mod scopes;
 #[cfg(test)]
 mod tests;
 
-pub use scopes::{Configuration, kept};
+pub use scopes::{Configuration, is_same_configuration, kept};

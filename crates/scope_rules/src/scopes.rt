@@ -1,6 +1,6 @@
 //! Configurations, and the scopes that they keep.
-ghost use Rattle.std.specs.Prelude.{◌≡◌};
-ghost use Rattle.scope_rules.specs.Kept.{is_kept, keeps_scope as scope_test};
+ghost use Rattle.std.specs.Prelude.{◌≡◌, ◌↔◌, IsTrue};
+ghost use Rattle.scope_rules.specs.Kept.{is_kept, keeps_scope};
 
 use res_base::DepRecord;
 
@@ -15,9 +15,16 @@ pub enum Configuration {
     Runtime,
 }
 
+/// Whether two configurations are one.
+pub fn is_same_configuration(one: Configuration, other: Configuration) -> bool
+    ensures { IsTrue result ↔ (one ≡ other) }
+{
+    one == other
+}
+
 /// Whether a configuration keeps a scope, the text of the element `scope`.
 fn keeps_scope(configuration: Configuration, scope: &str) -> bool
-    ensures { result ≡ scope_test configuration scope.now }
+    ensures { result ≡ keeps_scope configuration scope.now }
 {
     match configuration {
         Configuration::Compile => scope == "compile",
