@@ -1,7 +1,7 @@
 -- What the definitions give, row by row.
 use Rattle.std.specs.Prelude.{◌≡◌, ◌==◌, true, false, Some, None, [], ◌∷◌, codes, map, refl}
 use Rattle.std.specs.List.{list_all, list_any}
-use Rattle.ascii_bytes.specs.Classes.{is_blank, is_digit, is_hex_digit, is_letter_or_digit, is_plain_byte, is_white, is_word_byte}
+use Rattle.ascii_bytes.specs.Classes.{is_blank, is_hex_digit, is_letter_or_digit, is_plain_byte, is_white, is_word_byte}
 use Rattle.ascii_bytes.specs.Digits.{decimal, hex_digit}
 use Rattle.ascii_bytes.specs.Parts.{cut_at, trim}
 use Rattle.ascii_bytes.specs.Signs as signs
