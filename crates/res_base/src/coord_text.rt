@@ -21,9 +21,9 @@ pub enum CoordErr {
 }
 
 impl From<NoMemory> for CoordErr {
-    ghost use Rattle.res_base.specs.declared.coord_text.CoordErr.TheVariants.{NoMemory as OutOfMemory};
+    ghost use Rattle.res_base.specs.declared.coord_text.CoordErr.TheVariants.{NoMemory};
 
-    ghost from_gives = { λ _ e. e ≡ OutOfMemory };
+    ghost from_gives = { λ _ e. e ≡ NoMemory };
 
     fn from(_: NoMemory) -> CoordErr {
         CoordErr::NoMemory
