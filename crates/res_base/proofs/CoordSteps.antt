@@ -4,7 +4,7 @@ use Rattle.std.specs.Prelude.{◌==◌, slice_range}
 use Rattle.std.proofs.lemmas.List.{take_more, get_or-drop, length-drop}
 use Rattle.fault_place.specs.Place.{IsPlace}
 use Rattle.fault_place.specs.Reader.{At, Accepts}
-use Rattle.fault_place.proofs.Readers.{step_at, stops_at, ends_at, ends_with, at_start, spelled as read_spelled}
+use Rattle.fault_place.proofs.Readers.{step_at, stops_at, ends_at, at_start, spelled}
 use Rattle.ascii_bytes.specs.Classes.{is_word_byte, is_plain_byte}
 use Rattle.res_base.specs.Plain.{is_dot, is_plain_name}
 use Rattle.res_base.specs.CoordText.{is_constraint_byte, IsCoordText}
@@ -24,10 +24,6 @@ pub ends : (text : List ℕ) (i : ℕ) (s : State) → i ≡ length text → At 
     → IsPlace (Accepts IsCoordText) text (length text)
 ends text i s all here e = let P : ℕ → Type 0 = λ n. IsPlace (Accepts IsCoordText) text n in subst P all
     (ends_at right text i s all here e)
-
-pub spelled : (text : List ℕ) (i : ℕ) (s : State) (coord : Coord) → i ≡ length text → At coord_reader s (take i text)
-    → outcome s ≡ Some coord → IsCoordText text coord
-spelled = ends_with right
 
 pub org_word : (org : List ℕ) (in_part : Bool) (b : ℕ) → is_word_byte b ≡ true
     → step (in_org org in_part) b ≡ Some (in_org (org ++ b ∷ []) true)
@@ -95,7 +91,7 @@ none_outside text outside = by (coord_in text) refl
   where
     by : (o : Option Coord) → coord_in text ≡ o → o ≡ None
     by None e = refl
-    by (Some coord) e = absurd (outside (coord, read_spelled right text [] coord_reader.start coord (at_start right) e))
+    by (Some coord) e = absurd (outside (coord, spelled right text [] coord_reader.start coord (at_start right) e))
 
 pub none_at_place : (bytes text : List ℕ) (place : ℕ) → bytes ≡ text → IsPlace (Accepts IsCoordText) bytes place
     → coord_in text ≡ None
