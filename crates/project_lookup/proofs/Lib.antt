@@ -1,2 +1,3 @@
+-- Lemmas: places of keys among pairs, and the laws of look-ups.
 pub mod KnownLemmas
 pub mod LookLaws

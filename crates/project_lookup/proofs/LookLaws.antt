@@ -7,7 +7,7 @@ use Rattle.std.proofs.lemmas.Option.{slice_get-get_or}
 use Rattle.std.proofs.Math.Seq.{get_or-append_seam}
 use Rattle.res_base.specs.Builders.{key_of}
 use Rattle.res_base.specs.Known.{Known, Grows}
-use Rattle.res_base.specs.Paths.{pom_path_of, listing_path_of}
+use Rattle.res_base.specs.Paths.{pom_path_of}
 use Rattle.res_base.specs.Plain.{is_plain_coord, is_plain_module}
 use Rattle.res_base.specs.declared.coord.Coord.{Coord}
 use Rattle.res_base.specs.declared.coord.Module.{Module}
@@ -17,20 +17,15 @@ use Rattle.res_base.specs.declared.reading.Reading.{Reading}
 use Rattle.res_base.specs.declared.reading.Reading.TheVariants as readings
 use Rattle.res_base.specs.declared.reading.Reason.{Reason}
 use Rattle.res_base.specs.declared.reading.Reason.TheVariants as reasons
-use Rattle.project_lookup.specs.Listings.{no_listing, is_unknown, listing_at_key, listing_of}
-use Rattle.project_lookup.specs.Looks.{found, missing, not_found, is_missing, Tried, project, refused, tried, or_later, at_repo, look_from, look_of, pom_key, reason_at, NoneBefore, IsLook}
+use Rattle.project_lookup.specs.Listings.{no_listing, is_unknown, listing_at_key, listing_key, listing_of}
+use Rattle.project_lookup.specs.Looks.{not_found, is_missing, Tried, project, refused, tried, or_later, at_repo, look_from, look_of, pom_key, reason_at, NoneBefore, IsLook}
 
 -- one repository without the project
-pub look_next : (known : Known) (path : List ℕ) (repo n left : ℕ) (why : List Reason) (reading : Reading) (reason : Reason) → n ≡ suc left → known (key_of repo roles.Pom path) ≡ Some reading → tried reading ≡ refused reason
+pub look_next :
+    (known : Known) (path : List ℕ) (repo n left : ℕ) (why : List Reason) (reading : Reading) (reason : Reason)
+    → n ≡ suc left → known (key_of repo roles.Pom path) ≡ Some reading → tried reading ≡ refused reason
     → look_from known path repo n why ≡ look_from known path (repo + 1) left (why ++ reason ∷ [])
 look_next known path repo n left why reading reason e k t = rw (e, k, t) refl
-
-pub look_found : (known : Known) (path : List ℕ) (repo n left : ℕ) (why : List Reason) (reading : Reading) (pom : PomRecord) → n ≡ suc left → known (key_of repo roles.Pom path) ≡ Some reading → tried reading ≡ project pom
-    → look_from known path repo n why ≡ found repo pom
-look_found known path repo n left why reading pom e k t = rw (e, k, t) refl
-
-pub look_missing : (known : Known) (path : List ℕ) (repo n left : ℕ) (why : List Reason) → n ≡ suc left → known (key_of repo roles.Pom path) ≡ None → look_from known path repo n why ≡ missing (key_of repo roles.Pom path)
-look_missing known path repo n left why e k = rw (e, k) refl
 
 pom_in : PomRecord → Tried → PomRecord
 pom_in other (project pom) = pom
@@ -46,9 +41,9 @@ project_is readings.Absent pom e = cc
 project_is (readings.Damaged damage) pom e = cc
 project_is readings.TooLarge pom e = cc
 
--- the item behind others
-get_behind : {X : Type 0} (xs : List X) (x : X) → slice_get (xs ++ x ∷ []) (length xs) ≡ Some x
-get_behind xs x = slice_get-get_or (xs ++ x ∷ []) (length xs) x (omega (arith, length-append xs (x ∷ []))) ∙ ap Some (get_or-append_seam xs x [] x)
+-- the item after others
+get_last : {X : Type 0} (xs : List X) (x : X) → slice_get (xs ++ x ∷ []) (length xs) ≡ Some x
+get_last xs x = slice_get-get_or (xs ++ x ∷ []) (length xs) x (omega (arith, length-append xs (x ∷ []))) ∙ ap Some (get_or-append_seam xs x [] x)
 
 get_before : {X : Type 0} (xs : List X) (x : X) (k : ℕ) → k < length xs → slice_get (xs ++ x ∷ []) k ≡ slice_get xs k
 get_before xs x k within =
@@ -61,7 +56,8 @@ module _ (known : Known) (repos : ℕ) (c : Coord) where
     pub count : length why ≡ repo
     pub each : (earlier : ℕ) → earlier < repo → reason_at known c earlier ≡ slice_get why earlier
 
-  before_next : (repo : ℕ) (why : List Reason) (reason : Reason) → Before repo why → reason_at known c repo ≡ Some reason → Before (repo + 1) (why ++ reason ∷ [])
+  before_next : (repo : ℕ) (why : List Reason) (reason : Reason) → Before repo why
+      → reason_at known c repo ≡ Some reason → Before (repo + 1) (why ++ reason ∷ [])
   before_next repo why reason b here = record { none = none; count = length-append why (reason ∷ []) ∙ ap (λ n. n + 1) b.count; each = each }
     where
       none : NoneBefore known c (repo + 1)
@@ -69,19 +65,20 @@ module _ (known : Known) (repos : ℕ) (c : Coord) where
         where
           at : (earlier < repo) ⊎ (repo ≤ earlier) → IsSome (reason_at known c earlier)
           at (inl before) = b.none earlier before
-          at (inr behind) = let same : earlier ≡ repo = omega (arith, e) in rw (same, here) refl
+          at (inr after) = let same : earlier ≡ repo = omega (arith, e) in rw (same, here) refl
 
       each : (earlier : ℕ) → earlier < repo + 1 → reason_at known c earlier ≡ slice_get (why ++ reason ∷ []) earlier
       each earlier e = at (cases_lt earlier repo)
         where
           at : (earlier < repo) ⊎ (repo ≤ earlier) → reason_at known c earlier ≡ slice_get (why ++ reason ∷ []) earlier
           at (inl before) = b.each earlier before ∙ sym (get_before why reason earlier (subst (λ n. earlier < n) (sym b.count) before))
-          at (inr behind) =
+          at (inr after) =
               let same : earlier ≡ length why = omega (arith, e, b.count) in
               let at_repo : earlier ≡ repo = omega (arith, e) in
-              ap (reason_at known c) at_repo ∙ here ∙ sym (ap (slice_get (why ++ reason ∷ [])) same ∙ get_behind why reason)
+              ap (reason_at known c) at_repo ∙ here ∙ sym (ap (slice_get (why ++ reason ∷ [])) same ∙ get_last why reason)
 
-  look_is : (left repo : ℕ) (why : List Reason) → repo + left ≡ repos → Before repo why → IsLook known repos c (look_from known (pom_path_of c) repo left why)
+  look_is : (left repo : ℕ) (why : List Reason) → repo + left ≡ repos → Before repo why
+      → IsLook known repos c (look_from known (pom_path_of c) repo left why)
   look_is zero repo why e b = let all : repo ≡ repos = omega (arith, e) in (b.count ∙ all, λ earlier within. b.each earlier (subst (λ n. earlier < n) (sym all) within))
   look_is (suc left) repo why e b = at (known (pom_key c repo)) refl (λ reason here. look_is left (repo + 1) (why ++ reason ∷ []) (omega (arith, e)) (before_next repo why reason b here))
     where
@@ -103,39 +100,47 @@ module _ (known : Known) (repos : ℕ) (c : Coord) where
 
 module _ (before after : Known) (grows : Grows before after) where
   module _ (path : List ℕ) where
-    from_grows : (left repo : ℕ) (why : List Reason) → is_missing (look_from before path repo left why) ≡ false → look_from after path repo left why ≡ look_from before path repo left why
+    from_grows : (left repo : ℕ) (why : List Reason) → is_missing (look_from before path repo left why) ≡ false
+        → look_from after path repo left why ≡ look_from before path repo left why
     from_grows zero repo why answered = refl
     from_grows (suc left) repo why answered = at (before (key_of repo roles.Pom path)) refl answered (λ reason more. from_grows left (repo + 1) (why ++ reason ∷ []) more)
       where
-        by : (t : Tried) → is_missing (or_later repo t (λ reason. look_from before path (repo + 1) left (why ++ reason ∷ []))) ≡ false
+        by : (t : Tried)
+            → is_missing (or_later repo t (λ reason. look_from before path (repo + 1) left (why ++ reason ∷ []))) ≡ false
             → ((reason : Reason) → is_missing (look_from before path (repo + 1) left (why ++ reason ∷ [])) ≡ false → look_from after path (repo + 1) left (why ++ reason ∷ []) ≡ look_from before path (repo + 1) left (why ++ reason ∷ []))
             → or_later repo t (λ reason. look_from after path (repo + 1) left (why ++ reason ∷ [])) ≡ or_later repo t (λ reason. look_from before path (repo + 1) left (why ++ reason ∷ []))
         by (project pom) more rest = refl
         by (refused reason) more rest = rest reason more
 
-        at : (r : Option Reading) → before (key_of repo roles.Pom path) ≡ r → is_missing (at_repo (key_of repo roles.Pom path) r (λ reason. look_from before path (repo + 1) left (why ++ reason ∷ []))) ≡ false
+        at : (r : Option Reading) → before (key_of repo roles.Pom path) ≡ r
+            → is_missing (at_repo (key_of repo roles.Pom path) r (λ reason. look_from before path (repo + 1) left (why ++ reason ∷ []))) ≡ false
             → ((reason : Reason) → is_missing (look_from before path (repo + 1) left (why ++ reason ∷ [])) ≡ false → look_from after path (repo + 1) left (why ++ reason ∷ []) ≡ look_from before path (repo + 1) left (why ++ reason ∷ []))
             → at_repo (key_of repo roles.Pom path) (after (key_of repo roles.Pom path)) (λ reason. look_from after path (repo + 1) left (why ++ reason ∷ [])) ≡ at_repo (key_of repo roles.Pom path) r (λ reason. look_from before path (repo + 1) left (why ++ reason ∷ []))
         at None k more rest = absurd (true≢false more)
         at (Some reading) k more rest = rw (grows (key_of repo roles.Pom path) reading k) (by (tried reading) more rest)
 
-  pub look_grows : (repos : ℕ) (c : Coord) → is_missing (look_of before repos c) ≡ false → look_of after repos c ≡ look_of before repos c
+  pub look_grows : (repos : ℕ) (c : Coord) → is_missing (look_of before repos c) ≡ false
+      → look_of after repos c ≡ look_of before repos c
   look_grows repos c answered = at (is_plain_coord c) answered
     where
-      at : (b : Bool) → is_missing (cond b (look_from before (pom_path_of c) 0 repos []) (not_found (replicate repos reasons.BadName))) ≡ false
+      at : (b : Bool)
+          → is_missing (cond b (look_from before (pom_path_of c) 0 repos []) (not_found (replicate repos reasons.BadName))) ≡ false
           → cond b (look_from after (pom_path_of c) 0 repos []) (not_found (replicate repos reasons.BadName)) ≡ cond b (look_from before (pom_path_of c) 0 repos []) (not_found (replicate repos reasons.BadName))
       at true more = from_grows (pom_path_of c) repos 0 [] more
       at false more = refl
 
-  pub listing_grows : (m : Module) (repo : ℕ) → is_unknown (listing_of before m repo) ≡ false → listing_of after m repo ≡ listing_of before m repo
+  pub listing_grows : (m : Module) (repo : ℕ) → is_unknown (listing_of before m repo) ≡ false
+      → listing_of after m repo ≡ listing_of before m repo
   listing_grows m repo answered = at (is_plain_module m) answered
     where
-      by : (r : Option Reading) → before (key_of repo roles.Listing (listing_path_of m)) ≡ r → is_unknown (listing_at_key (key_of repo roles.Listing (listing_path_of m)) r) ≡ false
-          → listing_at_key (key_of repo roles.Listing (listing_path_of m)) (after (key_of repo roles.Listing (listing_path_of m))) ≡ listing_at_key (key_of repo roles.Listing (listing_path_of m)) r
+      by : (r : Option Reading) → before (listing_key m repo) ≡ r
+          → is_unknown (listing_at_key (listing_key m repo) r) ≡ false
+          → listing_at_key (listing_key m repo) (after (listing_key m repo)) ≡ listing_at_key (listing_key m repo) r
       by None k more = absurd (true≢false more)
-      by (Some reading) k more = ap (listing_at_key (key_of repo roles.Listing (listing_path_of m))) (grows (key_of repo roles.Listing (listing_path_of m)) reading k)
+      by (Some reading) k more = ap (listing_at_key (listing_key m repo)) (grows (listing_key m repo) reading k)
 
-      at : (b : Bool) → is_unknown (cond b (listing_at_key (key_of repo roles.Listing (listing_path_of m)) (before (key_of repo roles.Listing (listing_path_of m)))) no_listing) ≡ false
-          → cond b (listing_at_key (key_of repo roles.Listing (listing_path_of m)) (after (key_of repo roles.Listing (listing_path_of m)))) no_listing ≡ cond b (listing_at_key (key_of repo roles.Listing (listing_path_of m)) (before (key_of repo roles.Listing (listing_path_of m)))) no_listing
-      at true more = by (before (key_of repo roles.Listing (listing_path_of m))) refl more
+      at : (b : Bool)
+          → is_unknown (cond b (listing_at_key (listing_key m repo) (before (listing_key m repo))) no_listing) ≡ false
+          → cond b (listing_at_key (listing_key m repo) (after (listing_key m repo))) no_listing ≡ cond b (listing_at_key (listing_key m repo) (before (listing_key m repo))) no_listing
+      at true more = by (before (listing_key m repo)) refl more
       at false more = refl

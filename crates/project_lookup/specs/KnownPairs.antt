@@ -1,7 +1,8 @@
 -- What contracts see of known readings.
-use Rattle.std.specs.Prelude.{◌≡◌, ℕ, ◌<◌, Bool, true, not, List, All, map}
+use Rattle.std.specs.BTreeMap.{BTreeMap, get}
+use Rattle.std.specs.Prelude.{◌≡◌, ℕ, ◌<◌, Bool, true, not, Option, List, All, map, position}
 use Rattle.std.specs.List.{IsDistinct}
-use Rattle.res_base.specs.Names.{key_eq, role_eq}
+use Rattle.res_base.specs.Names.{key_eq, key_cmp, role_eq}
 use Rattle.res_base.specs.declared.key.FileKey.{FileKey}
 use Rattle.res_base.specs.declared.key.Role.{Role}
 use Rattle.res_base.specs.declared.key.Role.TheVariants as roles
@@ -29,3 +30,11 @@ AreFit repos pairs = All (λ pair. (pair.0.repo < repos) × (stands_at pair.1 pa
 
 abbrev pub HasDistinctKeys : List (FileKey × Reading) → Type 0
 HasDistinctKeys pairs = IsDistinct key_eq (map (λ pair. pair.0) pairs)
+
+-- the place of the pair with this key
+abbrev pub place_of : List (FileKey × Reading) → FileKey → Option ℕ
+place_of pairs key = position (λ pair. key_eq pair.0 key) pairs
+
+-- the table has the place of each key, and no other key
+abbrev pub HasPlaces : List (FileKey × Reading) → BTreeMap FileKey ℕ → Type 0
+HasPlaces pairs places = (key : FileKey) → get key_cmp places key ≡ place_of pairs key

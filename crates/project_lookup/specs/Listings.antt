@@ -41,6 +41,10 @@ abbrev pub listing_at_key : FileKey → Option Reading → Listed
 listing_at_key key None = unknown key
 listing_at_key key (Some reading) = listing_in reading
 
+abbrev pub listing_key : Module → ℕ → FileKey
+listing_key m repo = key_of repo roles.Listing (listing_path_of m)
+
 -- a module that is not plain has no listing, and no key is asked
 abbrev pub listing_of : Known → Module → ℕ → Listed
-listing_of known m repo = if is_plain_module m then listing_at_key (key_of repo roles.Listing (listing_path_of m)) (known (key_of repo roles.Listing (listing_path_of m))) else no_listing
+listing_of known m repo =
+    if is_plain_module m then listing_at_key (listing_key m repo) (known (listing_key m repo)) else no_listing

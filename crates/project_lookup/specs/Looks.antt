@@ -60,11 +60,14 @@ at_repo key (Some reading) later = or_later key.repo (tried reading) later
 -- the repositories from one on, of which so many are left, after these reasons
 abbrev pub look_from : Known → List ℕ → ℕ → ℕ → List Reason → Looked
 look_from known path repo zero why = not_found why
-look_from known path repo (suc left) why = at_repo (key_of repo roles.Pom path) (known (key_of repo roles.Pom path)) (λ reason. look_from known path (repo + 1) left (why ++ reason ∷ []))
+look_from known path repo (suc left) why =
+    at_repo (key_of repo roles.Pom path) (known (key_of repo roles.Pom path))
+    (λ reason. look_from known path (repo + 1) left (why ++ reason ∷ []))
 
 -- a coordinate that is not plain is not found, and no key is asked
 abbrev pub look_of : Known → ℕ → Coord → Looked
-look_of known repos c = if is_plain_coord c then look_from known (pom_path_of c) 0 repos [] else not_found (replicate repos reasons.BadName)
+look_of known repos c =
+    if is_plain_coord c then look_from known (pom_path_of c) 0 repos [] else not_found (replicate repos reasons.BadName)
 
 -- The same, in words of single repositories.
 
@@ -84,6 +87,9 @@ abbrev pub NoneBefore : Known → Coord → ℕ → Type 0
 NoneBefore known c repo = (earlier : ℕ) → earlier < repo → IsSome (reason_at known c earlier)
 
 abbrev pub IsLook : Known → ℕ → Coord → Looked → Type 0
-IsLook known repos c (found repo pom) = (repo < repos) × (known (pom_key c repo) ≡ Some (readings.Pom pom)) × NoneBefore known c repo
-IsLook known repos c (missing key) = (repo : ℕ) × (repo < repos) × (key ≡ pom_key c repo) × (known key ≡ None) × NoneBefore known c repo
-IsLook known repos c (not_found why) = (length why ≡ repos) × ((repo : ℕ) → repo < repos → reason_at known c repo ≡ slice_get why repo)
+IsLook known repos c (found repo pom) =
+    (repo < repos) × (known (pom_key c repo) ≡ Some (readings.Pom pom)) × NoneBefore known c repo
+IsLook known repos c (missing key) =
+    (repo : ℕ) × (repo < repos) × (key ≡ pom_key c repo) × (known key ≡ None) × NoneBefore known c repo
+IsLook known repos c (not_found why) =
+    (length why ≡ repos) × ((repo : ℕ) → repo < repos → reason_at known c repo ≡ slice_get why repo)

@@ -1,17 +1,13 @@
 -- Why a reading is not put in.
-use Rattle.std.specs.Prelude.{◌≡◌, ℕ, Option, None, Some, List, position}
+use Rattle.std.specs.Prelude.{◌≡◌, None, Some, List}
 use Rattle.res_base.specs.Known.{known_of}
-use Rattle.res_base.specs.Names.{key_eq}
 use Rattle.res_base.specs.declared.key.FileKey.{FileKey}
 use Rattle.res_base.specs.declared.reading.Reading.{Reading}
+use Rattle.project_lookup.specs.KnownPairs.{place_of}
 use Rattle.project_lookup.specs.declared.known.InsertErr.{InsertErr}
 use Rattle.project_lookup.specs.declared.known.InsertErr.TheVariants.{AlreadyKnown, NoMemory}
 
--- the place of the pair with this key
-abbrev pub place_of : List (FileKey × Reading) → FileKey → Option ℕ
-place_of pairs key = position (λ pair. key_eq pair.0 key) pairs
-
--- the key is known, by the pair at the place; memory is wanted only for a key that is not. The reading comes back.
+-- the key is known, by the pair at the place; out of memory only for a key that is not. The reading comes back.
 abbrev pub IsRefusal : List (FileKey × Reading) → FileKey → Reading → InsertErr → Type 0
 IsRefusal pairs key reading (AlreadyKnown place back) = (place_of pairs key ≡ Some place) × (back ≡ reading)
 IsRefusal pairs key reading (NoMemory back) = (known_of pairs key ≡ None) × (back ≡ reading)

@@ -1,13 +1,15 @@
 //! Known readings, by their keys.
-ghost use Rattle.std.specs.Prelude.{◌≡◌, ◌<◌, ◌≤◌, ◌∷◌, [], ◌++◌, true, None, length, IfErr, OnOk, OnErr};
+ghost use Rattle.std.specs.BTreeMap.{IsUnchanged, Updates};
 ghost use Rattle.std.specs.Option.{option_copied};
-ghost use Rattle.project_lookup.specs.KnownPairs.{AreFit, HasDistinctKeys, stands_at};
-ghost use Rattle.project_lookup.specs.Refusals.{IsRefusal, place_of};
+ghost use Rattle.std.specs.Prelude.{◌≡◌, ◌<◌, ◌≤◌, ◌∷◌, [], ◌++◌, true, None, Some, length, IfErr, OnOk, OnErr};
+ghost use Rattle.project_lookup.specs.KnownPairs.{AreFit, HasDistinctKeys, HasPlaces, place_of, stands_at};
+ghost use Rattle.project_lookup.specs.Refusals.{IsRefusal};
 ghost use Rattle.res_base.specs.Known.{known_of};
+ghost use Rattle.res_base.specs.Names.{key_cmp};
 
-use indexmap::IndexMap;
-use res_base::{FileKey, Reading};
+use res_base::{Copied, FileKey, NoMemory, Reading};
 use std::alloc::Global;
+use std::collections::BTreeMap;
 use std::marker::Model;
 
 /// Why a reading was not put in. Either hands it back.
@@ -23,38 +25,65 @@ pub enum InsertErr {
 #[derive(Drop)]
 pub struct Known {
     repos: u32,
-    readings: IndexMap<FileKey, Reading>,
+    readings: Vec<(FileKey, Reading)>,
+    /// The place of each key among the readings, in an ordered table: strangers choose the paths.
+    places: BTreeMap<FileKey, usize>,
 }
 
 impl Model for Known {
     ghost use Rattle.std.specs.Prelude.{◌<◌, ◌≤◌};
-    ghost use Rattle.project_lookup.specs.KnownPairs.{KnownPairs, AreFit};
+    ghost use Rattle.project_lookup.specs.KnownPairs.{KnownPairs, AreFit, HasDistinctKeys, HasPlaces};
 
     ghost Value = { KnownPairs };
 
-    ghost view = { λ known. record { repos = known.repos; pairs = known.readings.entries } };
+    ghost view = { λ known. record { repos = known.repos; pairs = known.readings.items } };
 
-    ghost invariant = { λ known. (0 < known.repos) × (known.repos ≤ 16) × AreFit known.repos known.readings.entries };
+    ghost invariant = { λ known.
+        (0 < known.repos)
+        × (known.repos ≤ 16)
+        × AreFit known.repos known.readings.items
+        × HasDistinctKeys known.readings.items
+        × HasPlaces known.readings.items known.places };
 }
 
-/// Puts a reading last in a table without its key. It comes back where memory is wanting.
+/// Notes the place of a key.
+fn put_place(
+    alloc: Global,
+    places: &mut BTreeMap<FileKey, usize>,
+    key: &FileKey,
+    place: usize,
+) -> Result<(), NoMemory>
+    ensures ok { OnOk result (Updates key_cmp places.old places.new key.now (Some place)) }
+    ensures err { OnErr result (IsUnchanged places.old places.new) }
+{
+    let copied = key.copy(alloc)?;
+    places.insert(copied, place)?;
+    Ok(())
+}
+
+/// Puts a reading last, and notes its place. It comes back when out of memory.
 fn put_last(
-    readings: &mut IndexMap<FileKey, Reading>,
+    readings: &mut Vec<(FileKey, Reading)>,
+    places: &mut BTreeMap<FileKey, usize>,
     key: FileKey,
     reading: Reading,
 ) -> Result<(), Reading>
-    requires { known_of readings.old.entries key ≡ None }
-    ensures ok { OnOk result (readings.new.entries ≡ readings.old.entries ++ (key, reading) ∷ []) }
+    ensures ok { OnOk result (readings.new.items ≡ readings.old.items ++ (key, reading) ∷ []) }
+    ensures places { OnOk result (Updates key_cmp places.old places.new key (Some (length readings.old.items))) }
     ensures err { IfErr result (λ back. back ≡ reading) }
-    ensures unchanged { OnErr result (readings.new.entries ≡ readings.old.entries) }
+    ensures unchanged { OnErr result (readings.new.items ≡ readings.old.items) }
+    ensures places_unchanged { OnErr result (IsUnchanged places.old places.new) }
 {
-    match readings.insert(key, reading) {
-        Ok(_) => Ok(()),
-        Err(refused) => {
-            let (_, reading) = refused.value;
-            Err(reading)
-        }
+    let alloc = *readings.allocator();
+    let place = readings.len();
+    if readings.reserve(1).is_err() {
+        return Err(reading);
     }
+    if put_place(alloc, places, &key, place).is_err() {
+        return Err(reading);
+    }
+    readings.push((key, reading)).unwrap();
+    Ok(())
 }
 
 impl Known {
@@ -66,7 +95,8 @@ impl Known {
     {
         Known {
             repos,
-            readings: IndexMap::new(alloc),
+            readings: Vec::new(alloc),
+            places: BTreeMap::new(alloc),
         }
     }
 
@@ -111,7 +141,7 @@ impl Known {
     fn place(&self, key: &FileKey) -> Option<usize>
         ensures { result ≡ place_of self.now.pairs key.now }
     {
-        self.readings.get_index_of(key)
+        self.places.get(key).copied()
     }
 
     /// Puts a reading last, under a key that is not known.
@@ -119,12 +149,13 @@ impl Known {
         requires repo { key.repo < self.old.repos }
         requires role { stands_at reading key.role ≡ true }
         requires unknown { known_of self.old.pairs key ≡ None }
+        requires unplaced { place_of self.old.pairs key ≡ None }
         ensures ok { OnOk result (self.new ≡ record self.old { pairs = self.old.pairs ++ (key, reading) ∷ [] }) }
         ensures unknown { OnOk result (known_of self.old.pairs key ≡ None) }
         ensures refused { IfErr result (IsRefusal self.old.pairs key reading) }
         ensures unchanged { OnErr result (self.new ≡ self.old) }
     {
-        match put_last(&mut self.readings, key, reading) {
+        match put_last(&mut self.readings, &mut self.places, key, reading) {
             Ok(()) => Ok(()),
             Err(reading) => Err(InsertErr::NoMemory(reading)),
         }
@@ -134,6 +165,9 @@ impl Known {
     pub fn at(&self, key: &FileKey) -> Option<&Reading>
         ensures { option_copied result ≡ known_of self.now.pairs key.now }
     {
-        self.readings.get(key)
+        match self.place(key) {
+            None => None,
+            Some(place) => Some(&self.readings[place].1),
+        }
     }
 }

@@ -1,10 +1,10 @@
 //! Look-ups of projects and of listings.
 ghost use Rattle.std.specs.Prelude.{◌≡◌, ◌<◌, [], replicate, IfOk, MatchResult};
-ghost use Rattle.project_lookup.specs.Listings.{listing_in as listing_by, listing_of, seen_listing};
+ghost use Rattle.project_lookup.specs.Listings.{listing_in, listing_of, seen_listing};
 ghost use Rattle.project_lookup.specs.Looks.{look_from, look_of, seen, tried};
 ghost use Rattle.project_lookup.specs.Looks.Tried.{project, refused};
 ghost use Rattle.res_base.specs.Known.{known_of};
-ghost use Rattle.res_base.specs.Plain.{is_plain_module as plain_module_test};
+ghost use Rattle.res_base.specs.Plain.{is_plain_module};
 
 use super::Known;
 use res_base::{
@@ -36,7 +36,9 @@ pub enum ListingAt<'a> {
 
 /// The project that a POM's reading gives, or why it gives none.
 fn project_in(reading: &Reading) -> Result<&PomRecord, Reason>
-    ensures { MatchResult result (λ pom. tried reading.now ≡ project pom.now) (λ reason. tried reading.now ≡ refused reason) }
+    ensures { MatchResult result
+        (λ pom. tried reading.now ≡ project pom.now)
+        (λ reason. tried reading.now ≡ refused reason) }
 {
     match reading {
         Reading::Pom(pom) => Ok(pom),
@@ -48,7 +50,7 @@ fn project_in(reading: &Reading) -> Result<&PomRecord, Reason>
 }
 
 fn listing_in(reading: &Reading) -> ListingAt<'_>
-    ensures { seen_listing result ≡ listing_by reading.now }
+    ensures { seen_listing result ≡ listing_in reading.now }
 {
     match reading {
         Reading::Listing(versions) => ListingAt::Versions(versions),
@@ -69,7 +71,7 @@ fn bad_names(alloc: Global, repos: u32) -> Result<List<Reason>, NoMemory>
 
 /// Whether both parts are plain: a coordinate of the module then is, with a plain version.
 fn is_plain_module(alloc: Global, module: &Module) -> Result<bool, NoMemory>
-    ensures { IfOk result (λ plain. plain ≡ plain_module_test «module».now) }
+    ensures { IfOk result (λ plain. plain ≡ is_plain_module «module».now) }
 {
     let coord = Coord {
         module: module.copy(alloc)?,
@@ -125,7 +127,8 @@ impl Known {
         repo: u32,
     ) -> Result<ListingAt<'_>, NoMemory>
         requires { repo < self.now.repos }
-        ensures { IfOk result (λ listing. seen_listing listing ≡ listing_of (known_of self.now.pairs) «module».now repo) }
+        ensures { IfOk result (λ listing.
+            seen_listing listing ≡ listing_of (known_of self.now.pairs) «module».now repo) }
     {
         if !is_plain_module(alloc, module)? {
             return Ok(ListingAt::NoListing);

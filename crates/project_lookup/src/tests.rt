@@ -38,13 +38,13 @@ fn look(alloc: Global, known: &Known, version: &str) -> Result<(char, usize), No
     })
 }
 
-/// Likewise for the first repository's listing of `x:a`.
-fn listing(alloc: Global, known: &Known) -> Result<(char, usize), NoMemory> {
-    if known.repos() == 0 {
-        return Err(NoMemory);
+/// Likewise for a repository's listing of `x:a`, where there is such a repository.
+fn listing(alloc: Global, known: &Known, repo: u32) -> Result<(char, usize), NoMemory> {
+    if known.repos() <= repo {
+        return Ok(('-', 0));
     }
     Ok(
-        match known.listing_at(alloc, &coord(alloc, "1")?.module, 0)? {
+        match known.listing_at(alloc, &coord(alloc, "1")?.module, repo)? {
             ListingAt::Versions(versions) => ('V', versions.len()),
             ListingAt::Unknown(key) => ('U', key.repo as usize),
             ListingAt::NoListing => ('N', 0),
@@ -73,8 +73,8 @@ fn looks_in_listed_order(rt: HostRuntime) -> Result<(), Fail> {
 fn asks_nothing(rt: HostRuntime) -> Result<(), Fail> {
     let known = Known::new(rt.alloc(), 2);
     let interval = look(rt.alloc(), &known, "[1,2)")?;
-    let listing = listing(rt.alloc(), &known)?;
-    assert!(rt; interval == ('N', 2) && listing == ('U', 0));
+    let second = listing(rt.alloc(), &known, 1)?;
+    assert!(rt; interval == ('N', 2) && second == ('U', 1));
     Ok(())
 }
 

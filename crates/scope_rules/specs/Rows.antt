@@ -6,7 +6,16 @@ use Rattle.scope_rules.specs.Kept.{is_kept}
 use Rattle.scope_rules.specs.declared.scopes.Configuration.TheVariants.{Default, Compile, Runtime}
 
 abbrev dep : List ℕ → List ℕ → DepRecord
-dep scope optional = record { «module» = module_of (codes "x") (codes "a"); version = codes "1"; kind = codes "jar"; classifier = []; scope = scope; optional = optional; exclusions = [] }
+dep scope optional =
+    record {
+      «module» = module_of (codes "x") (codes "a");
+      version = codes "1";
+      kind = codes "jar";
+      classifier = [];
+      scope = scope;
+      optional = optional;
+      exclusions = [];
+    }
 
 pub compile_for_all : is_kept Default (dep (codes "compile") []) ≡ true
 compile_for_all = refl

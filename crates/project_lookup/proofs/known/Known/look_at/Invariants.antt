@@ -8,4 +8,5 @@ abbrev pub invariant-loop-repo : goal.invariant-loop-repo
 invariant-loop-repo l =
     (l.key.role ≡ Pom)
     × (l.key.path ≡ l.fn.path)
-    × (look_from (known_of l.self.pairs) l.fn.path l.repo (l.repos - l.repo) l.reasons ≡ look_from (known_of l.self.pairs) l.fn.path 0 l.self.repos [])
+    × (look_from (known_of l.self.pairs) l.fn.path l.repo (l.repos - l.repo) l.reasons
+    ≡ look_from (known_of l.self.pairs) l.fn.path 0 l.self.repos [])

@@ -1,9 +1,10 @@
-use Rattle.std.proofs.Common.{ap, ◌∙◌}
-use Rattle.project_lookup.specs.KnownPairs.{KnownPairs}
-use Rattle.project_lookup.specs.Refusals.{place_of}
-use Rattle.project_lookup.proofs.KnownLemmas.{position-place_of}
+use Rattle.std.proofs.Common.{◌≡◌, ap, ◌∙◌, rules}
+use Rattle.std.specs.BTreeMap.{get}
+use Rattle.res_base.specs.Names.{key_cmp}
+use Rattle.project_lookup.specs.KnownPairs.{KnownPairs, place_of}
 use Rattle.project_lookup.proofs.known.Known.place.Goals as goal
 
 pub returns : goal.returns
 returns c =
-    c.get_index_of.ensures.index ∙ position-place_of c.args.key.now c.self.inside.readings.entries ∙ ap (λ (known : KnownPairs). place_of known.pairs c.args.key.now) c.self.view_is
+    let found : c.copied.result ≡ get key_cmp c.self.inside.places c.args.key.now = search rules in
+    found ∙ c.self.invariant.4 c.args.key.now ∙ ap (λ (known : KnownPairs). place_of known.pairs c.args.key.now) c.self.view_is
