@@ -37,7 +37,7 @@ impl<T: Drop> From<AllocFailed<T>> for StartErr {
     }
 }
 
-/// The words behind the program's name.
+/// The words after the program's name.
 fn command_words(rt: &HostRuntime) -> Result<Vec<String>, StartErr> {
     let mut words = Vec::new(rt.alloc());
     for word in env::args(rt)?.skip(1) {

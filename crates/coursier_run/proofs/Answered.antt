@@ -39,13 +39,13 @@ pub said_of_got : (job : Job) (got : Got) (said : Said) → IsSaidOfGot job got 
 said_of_got job got said (got_lone bytes is lone said_is) = inl said_is
 said_of_got job got said (got_other never said_is) = inr said_is
 
-pub justified_by_got : (Agree : Rows → Type 0) (rose : Type 0) (words : List (List ℕ)) (job : Job) (got : Got) (said : Said) → words_of words ≡ Asks job → is_plain_coord job.root ≡ true
-    → ((w : Rows) → Agree w → got ≡ got_of (at w (root_url job)) greatest_length) → IsSaidOfGot job got said → IsJustified Agree rose words said
-justified_by_got Agree rose words job got said read plain has is =
+pub justified_by_got : (Agree : Rows → Type 0) (FailedAt : List ℕ → Type 0) (words : List (List ℕ)) (job : Job) (got : Got) (said : Said) → words_of words ≡ Asks job → is_plain_coord job.root ≡ true
+    → ((w : Rows) → Agree w → got ≡ got_of (at w (root_url job)) greatest_length) → IsSaidOfGot job got said → IsJustified Agree FailedAt words said
+justified_by_got Agree FailedAt words job got said read plain has is =
     answers job read (said_of_got job got said is) (λ w a. answer_of_got w job got said plain (has w a) is)
 
 -- a root that is not plain has no file
-pub justified_by_name : (Agree : Rows → Type 0) (rose : Type 0) (words : List (List ℕ)) (job : Job) (said : Said) → words_of words ≡ Asks job → is_plain_coord job.root ≡ false
-    → said ≡ not_built_said job → IsJustified Agree rose words said
-justified_by_name Agree rose words job said read other is =
+pub justified_by_name : (Agree : Rows → Type 0) (FailedAt : List ℕ → Type 0) (words : List (List ℕ)) (job : Job) (said : Said) → words_of words ≡ Asks job → is_plain_coord job.root ≡ false
+    → said ≡ not_built_said job → IsJustified Agree FailedAt words said
+justified_by_name Agree FailedAt words job said read other is =
     answers job read (inr is) (λ w a. not_built (λ h. let bad : false ≡ true = sym other ∙ h.plain in cc) is)

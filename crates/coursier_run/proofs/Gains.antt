@@ -1,15 +1,11 @@
 -- Text that goes out piece by piece.
-use Rattle.std.proofs.Common.{◌≡◌, ◌<◌, ◌+◌, ◌++◌, ℕ, List, [], Option, Some, None, drop, length, get_or, refl, ap, ◌∙◌, append_assoc, append-nil, add-one, drop-cons}
+use Rattle.std.proofs.Common.{◌≡◌, ◌<◌, ◌+◌, ◌++◌, ℕ, List, [], Option, Some, None, drop, length, get_or, refl, ap, ◌∙◌, append_assoc, add-one, drop-cons}
 use Rattle.link_base.specs.Sinks.{gained, GainsPrefix}
 use Rattle.coursier_run.specs.Said.{joined}
 
 pub gained-gained : (written : Option (List ℕ)) (a b : List ℕ) → gained (gained written a) b ≡ gained written (a ++ b)
 gained-gained None a b = refl
 gained-gained (Some before) a b = ap Some (append_assoc before a b)
-
-pub gained-nothing : (written : Option (List ℕ)) → gained written [] ≡ written
-gained-nothing None = refl
-gained-nothing (Some before) = ap Some (append-nil before)
 
 -- one line more was sent
 pub one_more : (lines : List (List ℕ)) (i : ℕ) (line sent : List ℕ) → i < length lines → line ≡ get_or lines i line

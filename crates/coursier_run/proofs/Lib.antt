@@ -1,6 +1,5 @@
+-- From a link to all of them, from what is got to what is said, and from how a call ends to its promises.
 pub mod Answered
-pub mod Colons
-pub mod Coordinates
 pub mod FirstLink
 pub mod FourWords
 pub mod Gains

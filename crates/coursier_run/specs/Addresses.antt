@@ -1,24 +1,28 @@
--- The addresses of repositories: `http://HOST`, with `:PORT` and a path where wanted, or `file:` and the path of a folder.
-use Rattle.std.specs.Prelude.{ℕ, Bool, false, List, [], ◌∷◌, Option, Some, None, length, drop, codes, nat_eq, nat_le, fold, ◌==◌, ◌&&◌, ◌||◌, ◌+◌, ◌*◌, ◌-◌, not, if◌then◌else◌}
+-- The addresses of repositories: `http://HOST`, with `:PORT` and a path if wanted, or `file:` and the path of a folder.
+use Rattle.std.specs.Prelude.{ℕ, Bool, false, List, [], ◌∷◌, Option, Some, None, length, drop, codes, nat_eq, nat_le, ◌==◌, ◌&&◌, ◌||◌, not, if◌then◌else◌}
 use Rattle.std.specs.List.{list_all, starts_with}
 use Rattle.res_base.specs.Plain.{is_at_most_two_dots}
 use Rattle.link_base.specs.FilePaths.{is_slash, is_file_path}
-use Rattle.coursier_run.specs.Bytes.{is_digit, is_letter_or_digit, is_colon, cut_at}
+use Rattle.ascii_bytes.specs.Classes.{is_digit, is_letter_or_digit}
+use Rattle.ascii_bytes.specs.Digits.{decimal}
+use Rattle.ascii_bytes.specs.Parts.{cut_at}
+use Rattle.ascii_bytes.specs.Signs.{colon, dash, dot}
 
 abbrev pub is_host_byte : ℕ → Bool
-is_host_byte byte = is_letter_or_digit byte || (byte == 46) || (byte == 45)
+is_host_byte byte = is_letter_or_digit byte || (byte == dot) || (byte == dash)
 
 -- a host: one or more of A-Z a-z 0-9 . -, and neither one dot nor two
 abbrev pub is_host : List ℕ → Bool
 is_host text = not (is_at_most_two_dots text) && list_all is_host_byte text
 
--- the number of which these are the decimal digits
-abbrev pub number_of : List ℕ → ℕ
-number_of = fold (λ n b. n * 10 + (b - 48)) 0
-
 -- a port: 1 to 65535, without leading zeros
 abbrev pub is_port : List ℕ → Bool
-is_port text = nat_le (length text) 5 && not (starts_with nat_eq text (codes "0")) && list_all is_digit text && (nat_le 1 (number_of text) && nat_le (number_of text) 65535)
+is_port text =
+    nat_le (length text) 5 && not (starts_with nat_eq text (codes "0")) && list_all is_digit text
+    && (nat_le 1 (decimal text) && nat_le (decimal text) 65535)
+
+abbrev pub is_colon : ℕ → Bool
+is_colon byte = byte == colon
 
 abbrev pub is_host_and_port : List ℕ → Option (List ℕ × List ℕ) → Bool
 is_host_and_port text None = is_host text

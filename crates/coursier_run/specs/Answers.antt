@@ -1,10 +1,11 @@
 -- What is to be said, and why.
-use Rattle.std.specs.Prelude.{ℕ, ◌≡◌, ◌⊎◌, ◌<◌, ◌≤◌, List, [], ◌∷◌, Some, IsTrue, Any, sum_by, slice_get, codes}
+use Rattle.std.specs.Prelude.{ℕ, ◌≡◌, ◌⊎◌, ◌<◌, ◌≤◌, ◌++◌, List, [], ◌∷◌, Option, Some, IsTrue, All, Any, sum_by, slice_get, codes}
+use Rattle.std.specs.Option.{option_map}
 use Rattle.res_base.specs.Plain.{is_plain_coord}
-use Rattle.res_base.specs.Paths.{pom_path_of}
+use Rattle.res_base.specs.Paths.{pom_path_of, url_at}
 use Rattle.res_base.specs.World.{at}
 use Rattle.res_base.specs.Causes.{Rose, count_end}
-use Rattle.link_base.specs.Links.{Rows, url_of}
+use Rattle.link_base.specs.Links.{Rows}
 use Rattle.link_base.specs.declared.links.Got.{Got}
 use Rattle.link_base.specs.declared.links.Got.TheVariants.{Bytes}
 use Rattle.plain_pom.specs.LonePom.{IsLonePom}
@@ -18,7 +19,7 @@ use Rattle.coursier_run.specs.Words.{words_of}
 
 -- the URL of the root's project file
 abbrev pub root_url : Job → List ℕ
-root_url job = url_of job.address (pom_path_of job.root)
+root_url job = url_at job.address (pom_path_of job.root)
 
 -- what is printed where the root is found
 abbrev pub found_said : Job → Said
@@ -43,26 +44,47 @@ pub data IsAnswer (w : Rows) (job : Job) (said : Said) : Type 0 where
 -- what is to be said of a job where this is what a link has at the root's URL
 pub data IsSaidOfGot (job : Job) (got : Got) (said : Said) : Type 0 where
   got_lone : (bytes : List ℕ) → got ≡ Bytes bytes → IsLonePom bytes → said ≡ found_said job → IsSaidOfGot job got said
-  got_other : ((bytes : List ℕ) → got ≡ Bytes bytes → IsLonePom bytes → ⊥) → said ≡ not_built_said job → IsSaidOfGot job got said
+  got_other : ((bytes : List ℕ) → got ≡ Bytes bytes → IsLonePom bytes → ⊥) → said ≡ not_built_said job
+      → IsSaidOfGot job got said
 
 -- Why something is said: one case for each row of the table of statuses. Each case has a part that speaks of no world.
-pub data IsJustified (Agree : Rows → Type 0) (links_rose : Type 0) (words : List (List ℕ)) (said : Said) : Type 0 where
+pub data IsJustified (Agree : Rows → Type 0) (FailedAt : List ℕ → Type 0)
+    (words : List (List ℕ)) (said : Said) : Type 0 where
   -- the words are refused
-  refused : (kind : WordKind) (place : ℕ) → words_of words ≡ BadWords kind place → said ≡ Tells 2 (words_line kind place) → IsJustified Agree links_rose words said
+  refused : (kind : WordKind) (place : ℕ) → words_of words ≡ BadWords kind place
+      → said ≡ Tells 2 (words_line kind place)
+      → IsJustified Agree FailedAt words said
   -- the words ask for what is not built yet
-  not_built_words : words_of words ≡ NotBuilt → said ≡ Tells 9 (not_built_line (codes "words")) → IsJustified Agree links_rose words said
+  not_built_words : words_of words ≡ NotBuilt → said ≡ Tells 9 (not_built_line (codes "words"))
+      → IsJustified Agree FailedAt words said
   -- it is what each world answers with which the links agree
-  answers : (job : Job) → words_of words ≡ Asks job → (said ≡ found_said job) ⊎ (said ≡ not_built_said job) → ((w : Rows) → Agree w → IsAnswer w job said) → IsJustified Agree links_rose words said
+  answers : (job : Job) → words_of words ≡ Asks job → (said ≡ found_said job) ⊎ (said ≡ not_built_said job)
+      → ((w : Rows) → Agree w → IsAnswer w job said)
+      → IsJustified Agree FailedAt words said
   -- a link failed at the root's project file
-  link_failed : (job : Job) → words_of words ≡ Asks job → IsTrue (is_plain_coord job.root) → said ≡ Tells 3 (repository_line (root_url job)) → links_rose → IsJustified Agree links_rose words said
+  link_failed : (job : Job) → words_of words ≡ Asks job → IsTrue (is_plain_coord job.root)
+      → said ≡ Tells 3 (repository_line (root_url job)) → FailedAt (root_url job)
+      → IsJustified Agree FailedAt words said
 
--- the count of the first link rose, or stands at its greatest value
-pub record FirstRose {L : Type 0} (faults : L → ℕ) (old new : List L) : Type 0 where
+-- every link agrees with this world
+abbrev pub AllAgree : {L : Type 0} → (L → Rows → Type 0) → List L → Rows → Type 0
+AllAgree agrees links w = All (λ link. agrees link w) links
+
+-- a link failed at this URL: its count rose, or stands at its greatest value, and the URL is the one that was added to
+-- its failed URLs, where it tells these
+pub record LinkFailedAt {L : Type 0} (faults : L → ℕ) (failed_urls : L → Option (List (List ℕ))) (old new : L)
+    (url : List ℕ) : Type 0 where
+  pub rose : Rose (faults old) (faults new)
+  pub added : failed_urls new ≡ option_map (λ urls. urls ++ (url ∷ [])) (failed_urls old)
+
+-- the first link did
+pub record FirstFailedAt {L : Type 0} (faults : L → ℕ) (failed_urls : L → Option (List (List ℕ))) (old new : List L)
+    (url : List ℕ) : Type 0 where
   pub before : L
   pub now : L
   pub was_first : slice_get old 0 ≡ Some before
   pub is_first : slice_get new 0 ≡ Some now
-  pub rose : Rose (faults before) (faults now)
+  pub failed : LinkFailedAt faults failed_urls before now url
 
 -- the counts together rose, or one stands at its greatest value
 abbrev pub RoseTogether : {L : Type 0} → (L → ℕ) → List L → List L → Type 0

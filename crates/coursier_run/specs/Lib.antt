@@ -1,7 +1,6 @@
+-- Words, addresses and lines of the command, and what the top call promises.
 pub mod Addresses
 pub mod Answers
-pub mod Bytes
-pub mod Coordinates
 pub mod Lines
 pub mod Outcomes
 pub mod Promises

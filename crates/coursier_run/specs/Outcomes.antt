@@ -14,7 +14,8 @@ pub record Streams : Type 0 where
   pub err_now : Option (List ℕ)
 
 abbrev pub streams : {O : Type 0} → (O → Option (List ℕ)) → O → O → O → O → Streams
-streams written out out' err err' = record { out_before = written out; out_now = written out'; err_before = written err; err_now = written err' }
+streams written out out' err err' =
+    record { out_before = written out; out_now = written out'; err_before = written err; err_now = written err' }
 
 -- nothing went out on `out`
 abbrev pub on_err : Option (List ℕ) → Option (List ℕ) → Option (List ℕ) → Streams
@@ -26,7 +27,7 @@ pub record IsTold (s : Streams) (said : Said) (status : ℕ) : Type 0 where
   pub out : s.out_now ≡ gained s.out_before (out_of said)
   pub err : s.err_now ≡ gained s.err_before (err_of said)
 
--- memory was wanted (5), or a sink failed whose count of faults then rose (6)
+-- there was no memory (5), or a sink failed whose count of faults then rose (6)
 abbrev pub IsCut : Type 0 → ℕ → Type 0
 IsCut sink_rose status = (status ≡ 5) ⊎ ((status ≡ 6) × sink_rose)
 
@@ -51,10 +52,12 @@ IsForErr (Tells status line) = Unit {0}
 -- this was to be said, and went out whole or cut
 pub data IsSaid (s : Streams) (out_rose err_rose : Type 0) (said : Said) (status : ℕ) : Type 0 where
   whole : IsTold s said status → IsSaid s out_rose err_rose said status
-  cut_out : IsForOut said → IsCut (out_rose ⊎ err_rose) status → IsCutOut s (out_of said) → IsSaid s out_rose err_rose said status
+  cut_out : IsForOut said → IsCut (out_rose ⊎ err_rose) status → IsCutOut s (out_of said)
+      → IsSaid s out_rose err_rose said status
   cut_err : IsForErr said → IsCut err_rose status → IsCutErr s (err_of said) → IsSaid s out_rose err_rose said status
 
--- there was something to say, and why; or memory was wanted before there was
+-- there was something to say, and why; or there was no memory before there was
 pub data Ends (Justified : Said → Type 0) (s : Streams) (out_rose err_rose : Type 0) (status : ℕ) : Type 0 where
-  says : (said : Said) → Justified said → IsSaid s out_rose err_rose said status → Ends Justified s out_rose err_rose status
+  says : (said : Said) → Justified said → IsSaid s out_rose err_rose said status
+      → Ends Justified s out_rose err_rose status
   no_memory : IsCut err_rose status → IsCutErr s memory_line → Ends Justified s out_rose err_rose status

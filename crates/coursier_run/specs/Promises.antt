@@ -29,12 +29,12 @@ pub record RefusesWords (words : List (List ℕ)) (s : Streams) : Type 0 where
   pub read : words_of words ≡ BadWords kind place
   pub told : IsTold s (Tells 2 (words_line kind place)) 2
 
--- at 3 the links' counts rose, and the line names the file that was asked
-pub record BlamesLink (links_rose : Type 0) (words : List (List ℕ)) (s : Streams) : Type 0 where
+-- at 3 a link failed at the file that was asked, and the line names this file
+pub record BlamesLink (FailedAt : List ℕ → Type 0) (words : List (List ℕ)) (s : Streams) : Type 0 where
   pub job : Job
   pub read : words_of words ≡ Asks job
   pub plain : IsTrue (is_plain_coord job.root)
-  pub rose : links_rose
+  pub failed : FailedAt (root_url job)
   pub told : IsTold s (Tells 3 (repository_line (root_url job))) 3
 
 -- at 9 the words ask for what is not built yet
@@ -49,15 +49,18 @@ pub record LeavesRoot (Agree : Rows → Type 0) (words : List (List ℕ)) (s : S
   pub told : IsTold s (not_built_said job) 9
   pub not_found : (w : Rows) → Agree w → HasLonePom w job → ⊥
 
--- refused words end with status 2 and their line, unless memory is wanted or the sink fails
+-- refused words end with status 2 and their line, unless there is no memory or the sink fails
 abbrev pub AnswersRefusal : Type 0 → List (List ℕ) → Streams → ℕ → Type 0
 AnswersRefusal err_rose words s status = (kind : WordKind) (place : ℕ) → words_of words ≡ BadWords kind place
-    → IsTold s (Tells 2 (words_line kind place)) status ⊎ (IsCut err_rose status × (IsCutErr s (words_line kind place) ⊎ IsCutErr s memory_line))
+    → IsTold s (Tells 2 (words_line kind place)) status
+    ⊎ (IsCut err_rose status × (IsCutErr s (words_line kind place) ⊎ IsCutErr s memory_line))
 
--- where no count rose, the status is the one that the words and the world call for, or memory was wanted
+-- where no count rose, the status is the one that the words and the world call for, or there was no memory
 pub record IsComplete (Agree : Rows → Type 0) (words : List (List ℕ)) (status : ℕ) : Type 0 where
   pub refused : (kind : WordKind) (place : ℕ) → words_of words ≡ BadWords kind place → (status ≡ 2) ⊎ (status ≡ 5)
   pub not_built : words_of words ≡ NotBuilt → (status ≡ 9) ⊎ (status ≡ 5)
   pub any_world : (job : Job) → words_of words ≡ Asks job → (status ≡ 0) ⊎ (status ≡ 9) ⊎ (status ≡ 5)
-  pub found : (job : Job) (w : Rows) → words_of words ≡ Asks job → Agree w → HasLonePom w job → (status ≡ 0) ⊎ (status ≡ 5)
-  pub not_found : (job : Job) (w : Rows) → words_of words ≡ Asks job → Agree w → (HasLonePom w job → ⊥) → (status ≡ 9) ⊎ (status ≡ 5)
+  pub found : (job : Job) (w : Rows) → words_of words ≡ Asks job → Agree w → HasLonePom w job
+      → (status ≡ 0) ⊎ (status ≡ 5)
+  pub not_found : (job : Job) (w : Rows) → words_of words ≡ Asks job → Agree w → (HasLonePom w job → ⊥)
+      → (status ≡ 9) ⊎ (status ≡ 5)

@@ -3,12 +3,13 @@ use Rattle.std.specs.Prelude.{ℕ, Bool, false, List, [], ◌∷◌, Option, Som
 use Rattle.std.specs.List.{list_all, list_any, ends_with}
 use Rattle.res_base.specs.Names.{text_eq}
 use Rattle.ascii_bytes.specs.Classes.{is_plain_byte}
+use Rattle.ascii_bytes.specs.Signs.{bar}
 use Rattle.res_base.specs.declared.coord.Coord.{Coord}
 use Rattle.coursier_run.specs.declared.words.WordKind.TheVariants.{NoCommand, TooMany, UnknownCommand, Repositories, Roots}
 use Rattle.coursier_run.specs.declared.words.Words.{Words}
 use Rattle.coursier_run.specs.declared.words.Words.TheVariants.{Asks, BadWords, NotBuilt}
 use Rattle.coursier_run.specs.Addresses.{address_of}
-use Rattle.coursier_run.specs.Coordinates.{coord_of}
+use Rattle.res_base.specs.CoordReader.{coord_in}
 
 -- a command has at most so many words
 abbrev pub most_words : ℕ
@@ -19,30 +20,36 @@ is_command word = text_eq word (codes "resolve") || text_eq word (codes "fetch")
 
 -- names of versions that float: they name no version of their own
 abbrev pub is_floating : List ℕ → Bool
-is_floating text = text_eq text (codes "latest.release") || text_eq text (codes "latest.integration") || text_eq text (codes "LATEST") || text_eq text (codes "RELEASE")
+is_floating text =
+    text_eq text (codes "latest.release") || text_eq text (codes "latest.integration") || text_eq text (codes "LATEST")
+    || text_eq text (codes "RELEASE")
 
--- A plain version: plain bytes that do not end in `+` and are no name of versions that float. Intervals and such names are constraints that are not built yet.
+-- A plain version: plain bytes that do not end in `+` and are no name of versions that float. Intervals and such names
+-- are constraints that are not built yet.
 abbrev pub is_plain_version : List ℕ → Bool
 is_plain_version text = not (is_floating text) && not (ends_with nat_eq text (codes "+")) && list_all is_plain_byte text
 
 abbrev pub asks_at : List ℕ → Option Coord → Words
 asks_at address None = BadWords Roots 0
-asks_at address (Some root) = if is_plain_version root.version then Asks (record { address = address; root = root }) else NotBuilt
+asks_at address (Some root) =
+    if is_plain_version root.version then Asks (record { address = address; root = root }) else NotBuilt
 
 abbrev pub words_at : Option (List ℕ) → List ℕ → Words
 words_at None root = BadWords Repositories 0
-words_at (Some address) root = asks_at address (coord_of root)
+words_at (Some address) root = asks_at address (coord_in root)
 
 abbrev pub is_bar : ℕ → Bool
-is_bar byte = byte == 124
+is_bar byte = byte == bar
 
 -- a list of repositories, which a bar separates, is not built yet
 abbrev pub words_of_values : List ℕ → List ℕ → Words
-words_of_values repositories root = if list_any is_bar repositories then NotBuilt else words_at (address_of repositories) root
+words_of_values repositories root =
+    if list_any is_bar repositories then NotBuilt else words_at (address_of repositories) root
 
 abbrev pub words_of_four : List ℕ → List ℕ → List ℕ → List ℕ → Words
 words_of_four command option repositories root =
-    if text_eq command (codes "resolve") && text_eq option (codes "--repositories") then words_of_values repositories root else NotBuilt
+    if text_eq command (codes "resolve") && text_eq option (codes "--repositories")
+    then words_of_values repositories root else NotBuilt
 
 abbrev pub words_of_command : List (List ℕ) → Words
 words_of_command (command ∷ option ∷ repositories ∷ root ∷ []) = words_of_four command option repositories root

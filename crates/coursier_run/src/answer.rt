@@ -1,12 +1,13 @@
-// What is to be said of a job.
+//! What is to be said of a job.
 ghost use Rattle.std.specs.Prelude.{◌≡◌, ◌≤◌, ℕ, List, IfOk};
-ghost use Rattle.res_base.specs.Causes.{Rose, counted};
-ghost use Rattle.link_base.specs.Links.{LinkKept, url_of};
+ghost use Rattle.res_base.specs.Causes.{counted};
+ghost use Rattle.link_base.specs.Links.{LinkKept};
+ghost use Rattle.res_base.specs.Paths.{url_at};
 ghost use Rattle.coursier_run.specs.declared.said.Said.TheVariants.{Tells};
 ghost use Rattle.coursier_run.specs.declared.words.Words.TheVariants.{Asks};
 ghost use Rattle.coursier_run.specs.Lines.{coord_line, module_text, not_built_line, repository_line, words_line};
 ghost use Rattle.coursier_run.specs.Words.{words_of};
-ghost use Rattle.coursier_run.specs.Answers.{found_said, not_built_said, IsSaidOfGot, IsJustified};
+ghost use Rattle.coursier_run.specs.Answers.{found_said, not_built_said, IsSaidOfGot, IsJustified, LinkFailedAt};
 
 use crate::Said;
 use crate::words::{Job, WordKind};
@@ -38,7 +39,7 @@ fn not_built_text(alloc: Global, module: &Module) -> Result<Text, NoMemory>
 }
 
 fn repository_text(alloc: Global, address: &str, path: &str) -> Result<Text, NoMemory>
-    ensures { IfOk result (λ line. line ≡ repository_line (url_of address.now path.now)) }
+    ensures { IfOk result (λ line. line ≡ repository_line (url_at address.now path.now)) }
 {
     let line = format!(in alloc; "coursier: repository: {address}/{path}\n")?;
     Ok(Text::from_string(line))
@@ -54,7 +55,7 @@ pub fn words_text(alloc: Global, kind: WordKind, place: u64) -> Result<Text, NoM
 }
 
 fn say_failed(alloc: Global, address: &str, path: &str) -> Result<Said, NoMemory>
-    ensures { IfOk result (λ said. said ≡ Tells 3 (repository_line (url_of address.now path.now))) }
+    ensures { IfOk result (λ said. said ≡ Tells 3 (repository_line (url_at address.now path.now))) }
 {
     Ok(Said::Tells(3, repository_text(alloc, address, path)?))
 }
@@ -91,7 +92,8 @@ fn say_got(alloc: Global, job: &Job, got: &Got) -> Result<Said, NoMemory>
 
 /// What is to be said of a job, over one link.
 pub fn answer<L: Link>(alloc: Global, job: &Job, link: &mut L) -> Result<Said, NoMemory>
-    ensures justified { IfOk result (λ said. (words : List (List ℕ)) → words_of words ≡ Asks job.now → IsJustified (L.agrees link.old) (Rose (L.faults link.old) (L.faults link.new)) words said) }
+    ensures justified { IfOk result (λ said. (words : List (List ℕ)) → words_of words ≡ Asks job.now
+        → IsJustified (L.agrees link.old) (LinkFailedAt L.faults L.failed_urls link.old link.new) words said) }
     ensures kept { LinkKept L.agrees L.faults L.asked L.failed_urls link.old link.new }
     ensures asked { L.asked link.new ≤ counted (L.asked link.old) }
 {

@@ -1,12 +1,8 @@
 //! The top call: from the words of a command to the bytes on its output.
-//!
-//! So far one command is built, `resolve --repositories ADDRESS COORD`, for a root whose project
-//! file is plain and has no dependencies.
 #![tactic(auto)]
 
 mod address;
 mod answer;
-mod bytes;
 mod said;
 mod still;
 mod tell;

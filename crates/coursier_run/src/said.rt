@@ -1,3 +1,4 @@
+//! What the command says.
 use res_base::{List, Text};
 
 /// What the command says.

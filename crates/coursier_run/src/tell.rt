@@ -1,4 +1,4 @@
-// Saying what is to be said.
+//! Saying what is to be said.
 ghost use Rattle.std.specs.Prelude.{◌≡◌, ◌≤◌, ℕ, List, Option, OnOk, OnErr};
 ghost use Rattle.res_base.specs.Causes.{HasCause, Rose};
 ghost use Rattle.link_base.specs.Sinks.{gained, GainsPrefix};
@@ -27,7 +27,7 @@ fn put_lines<O: Sink>(alloc: Global, out: &mut O, lines: &[Text]) -> Result<(), 
     Ok(())
 }
 
-/// Says that memory is wanted, and gives the status.
+/// Says that there is no memory, and gives the status.
 pub fn tell_memory<O: Sink>(alloc: Global, err: &mut O) -> u8
     ensures status { IsCut (Rose (O.faults err.old) (O.faults err.new)) result }
     ensures part { GainsPrefix (O.written err.old) (O.written err.new) memory_line }
@@ -41,7 +41,8 @@ pub fn tell_memory<O: Sink>(alloc: Global, err: &mut O) -> u8
 
 /// Says a line on `err`, and gives the status.
 pub fn tell_line<O: Sink>(alloc: Global, status: u8, line: &str, err: &mut O) -> u8
-    ensures { (out : Option (List ℕ)) → IsSaid (on_err out (O.written err.old) (O.written err.new)) ⊥ (Rose (O.faults err.old) (O.faults err.new)) (Tells status line.now) result }
+    ensures { (out : Option (List ℕ)) → IsSaid (on_err out (O.written err.old) (O.written err.new)) ⊥
+        (Rose (O.faults err.old) (O.faults err.new)) (Tells status line.now) result }
 {
     match err.put(alloc, line.as_bytes()) {
         Ok(()) => status,

@@ -1,3 +1,4 @@
+//! Whole runs of the command over links, sinks and a clock in memory.
 ghost use Rattle.std.specs.Prelude.{◌<◌, IfOk, vec_len};
 
 use crate::run_still;
@@ -19,7 +20,7 @@ const SPACES: &str = "                                                          
 
 const ROOT_WORDS: &str = "resolve --repositories http://r1 org.a:a:1.0";
 
-// What a run left behind.
+// How a run ended.
 #[derive(Drop)]
 struct Ran {
     status: u8,

@@ -1,13 +1,13 @@
-// Plain versions.
+//! Plain versions.
 ghost use Rattle.std.specs.Prelude.{◌≡◌};
 ghost use Rattle.std.specs.List.{list_all};
-ghost use Rattle.ascii_bytes.specs.Classes as plain;
-ghost use Rattle.coursier_run.specs.Words as words;
+ghost use Rattle.ascii_bytes.specs.Classes.{is_plain_byte};
+ghost use Rattle.coursier_run.specs.Words.{is_floating, is_plain_version};
 
-use crate::bytes::is_plain_byte;
+use ascii_bytes::is_plain_byte;
 
 fn is_floating(text: &str) -> bool
-    ensures { result ≡ words.is_floating text.now }
+    ensures { result ≡ is_floating text.now }
 {
     text == "latest.release"
         || text == "latest.integration"
@@ -16,14 +16,14 @@ fn is_floating(text: &str) -> bool
 }
 
 fn has_version_bytes(text: &[u8]) -> bool
-    ensures { result ≡ list_all plain.is_plain_byte text.now }
+    ensures { result ≡ list_all is_plain_byte text.now }
 {
     text.iter().all(|byte| is_plain_byte(*byte))
 }
 
 /// Whether a text names one version, and neither an interval of versions nor one that floats.
 pub fn is_plain_version(text: &str) -> bool
-    ensures { result ≡ words.is_plain_version text.now }
+    ensures { result ≡ is_plain_version text.now }
 {
     let bytes = text.as_bytes();
     !is_floating(text) && !bytes.ends_with(b"+") && has_version_bytes(bytes)

@@ -1,10 +1,10 @@
-// What the words of a command ask for.
+//! What the words of a command ask for.
 ghost use Rattle.std.specs.Prelude.{◌≡◌, ◌&&◌, IfOk, map, string_bytes, codes};
 ghost use Rattle.std.specs.List.{list_any};
 ghost use Rattle.res_base.specs.Names.{text_eq};
-ghost use Rattle.coursier_run.specs.Coordinates.{coord_of};
+ghost use Rattle.res_base.specs.CoordReader.{coord_in};
 ghost use Rattle.coursier_run.specs.Lines.{kind_text};
-ghost use Rattle.coursier_run.specs.Words as spelled;
+ghost use Rattle.coursier_run.specs.Words.{is_bar, is_command, words_of, words_of_command, words_of_values};
 
 use crate::address::read_address;
 use crate::version::is_plain_version;
@@ -58,20 +58,20 @@ pub enum Words {
 }
 
 fn is_command(word: &str) -> bool
-    ensures { result ≡ spelled.is_command word.now }
+    ensures { result ≡ is_command word.now }
 {
     word == "resolve" || word == "fetch" || word == "sample"
 }
 
 fn has_bar(text: &[u8]) -> bool
-    ensures { result ≡ list_any spelled.is_bar text.now }
+    ensures { result ≡ list_any is_bar text.now }
 {
     text.iter().any(|byte| *byte == b'|')
 }
 
 // The words of an address and a root.
 fn read_values(alloc: Global, repositories: &str, root: &str) -> Result<Words, NoMemory>
-    ensures { IfOk result (λ read. read ≡ spelled.words_of_values repositories.now root.now) }
+    ensures { IfOk result (λ read. read ≡ words_of_values repositories.now root.now) }
 {
     if has_bar(repositories.as_bytes()) {
         return Ok(Words::NotBuilt);
@@ -91,7 +91,7 @@ fn read_values(alloc: Global, repositories: &str, root: &str) -> Result<Words, N
 
 // The coordinate of a root.
 fn read_root(alloc: Global, text: &str) -> Result<Option<Coord>, NoMemory>
-    ensures { IfOk result (λ coord. coord ≡ coord_of text.now) }
+    ensures { IfOk result (λ coord. coord ≡ coord_in text.now) }
 {
     match parse_coord(alloc, text) {
         Ok(coord) => Ok(Some(coord)),
@@ -107,7 +107,7 @@ fn is_resolve(command: &str, option: &str) -> bool
 }
 
 fn read_command(alloc: Global, words: &[String]) -> Result<Words, NoMemory>
-    ensures { IfOk result (λ read. read ≡ spelled.words_of_command (map string_bytes words.now)) }
+    ensures { IfOk result (λ read. read ≡ words_of_command (map string_bytes words.now)) }
 {
     if words.len() != 4 {
         return Ok(Words::NotBuilt);
@@ -120,7 +120,7 @@ fn read_command(alloc: Global, words: &[String]) -> Result<Words, NoMemory>
 
 /// Reads the words of a command, the first of which is its name.
 pub fn read_words(alloc: Global, words: &[String]) -> Result<Words, NoMemory>
-    ensures { IfOk result (λ read. read ≡ spelled.words_of (map string_bytes words.now)) }
+    ensures { IfOk result (λ read. read ≡ words_of (map string_bytes words.now)) }
 {
     let Some(command) = words.first() else {
         return Ok(Words::BadWords(WordKind::NoCommand, 0));

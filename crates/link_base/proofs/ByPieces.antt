@@ -1,5 +1,6 @@
 -- The pieces of a file, one after another.
-use Rattle.std.proofs.Common.{◌≡◌, ℕ, ◌+◌, ◌<◌, ◌≤◌, List, [], ◌∷◌, ◌++◌, length, take, drop, Option, Some, None, Ok, refl, sym, ◌∙◌, ap, arith, length-append, zero, suc}
+use Rattle.std.proofs.Common.{◌≡◌, ℕ, ◌<◌, ◌≤◌, List, ◌++◌, length, take, drop, Option, Some, None, Ok, refl, sym, ◌∙◌, ap, arith, length-append}
+use Rattle.std.proofs.Math.Seq.{take-add, take-length}
 use Rattle.std.proofs.lemmas.Bool.{le-leb, lt-leb}
 use Rattle.link_base.specs.Links.{got_of, IsNext}
 use Rattle.link_base.specs.Pieces.{BeginsFile}
@@ -11,29 +12,14 @@ use Rattle.link_base.specs.declared.links.Next.TheVariants.{Piece, End, TooLarge
 abbrev pub open_at : List ℕ → ℕ → List ℕ → OpenFile
 open_at url limit bytes = record { url = url; limit = limit; given = length bytes }
 
-take-whole : (all : List ℕ) → take (length all) all ≡ all
-take-whole [] = refl
-take-whole (x ∷ all) = ap (λ rest. x ∷ rest) (take-whole all)
-
-take-nil : (n : ℕ) → take n (let none : List ℕ = [] in none) ≡ []
-take-nil zero = refl
-take-nil (suc n) = refl
-
--- the first bytes, and then the next ones
-take-further : (all : List ℕ) (n m : ℕ) → take n all ++ take m (drop n all) ≡ take (n + m) all
-take-further all zero m = grind arith
-take-further [] (suc n) m = rw (take-nil m, take-nil (suc n + m)) refl
-take-further (x ∷ all) (suc n) m =
-    let one_more : suc (n + m) ≡ suc n + m = omega arith in
-    ap (λ rest. x ∷ rest) (take-further all n m) ∙ ap (λ k. take k (x ∷ all)) one_more
-
 -- at the end the bytes are the file
 pub whole_at_end : (file : OpenFile) (content : Option (List ℕ)) (bytes piece : List ℕ) (limit : ℕ)
-    → BeginsFile content bytes → file.given ≡ length bytes → length bytes ≤ limit → IsNext file content (Ok End) piece → Bytes bytes ≡ got_of content limit
+    → BeginsFile content bytes → file.given ≡ length bytes → length bytes ≤ limit → IsNext file content (Ok End) piece
+    → Bytes bytes ≡ got_of content limit
 whole_at_end file None bytes piece limit b g l n = absurd n
 whole_at_end file (Some all) bytes piece limit b g l n =
     let as_long : length bytes ≡ length all = sym g ∙ n in
-    let same : bytes ≡ all = b ∙ (ap (λ k. take k all) as_long ∙ take-whole all) in
+    let same : bytes ≡ all = b ∙ (ap (λ k. take k all) as_long ∙ take-length all) in
     let fits : length all ≤ limit = omega arith in
     rw (le-leb (length all) limit fits) (ap Bytes same)
 
@@ -47,9 +33,11 @@ large_past_limit file (Some all) piece limit l n =
 
 -- one more piece is the next bytes
 pub begins_further : (file : OpenFile) (content : Option (List ℕ)) (bytes piece : List ℕ)
-    → BeginsFile content bytes → file.given ≡ length bytes → IsNext file content (Ok Piece) piece → BeginsFile content (bytes ++ piece)
+    → BeginsFile content bytes → file.given ≡ length bytes → IsNext file content (Ok Piece) piece
+    → BeginsFile content (bytes ++ piece)
 begins_further file None bytes piece b g n = absurd n
 begins_further file (Some all) bytes piece b g n =
-    let next : piece ≡ take (length piece) (drop (length bytes) all) = rw g at n in
-    let both : bytes ++ piece ≡ take (length bytes) all ++ take (length piece) (drop (length bytes) all) = rw (← b, ← next) refl in
-    both ∙ (take-further all (length bytes) (length piece) ∙ ap (λ k. take k all) (sym (length-append bytes piece)))
+    let rest : List ℕ = drop (length bytes) all in
+    let next : piece ≡ take (length piece) rest = rw g at n in
+    let both : bytes ++ piece ≡ take (length bytes) all ++ take (length piece) rest = rw (← b, ← next) refl in
+    both ∙ (sym (take-add (length bytes) (length piece) all) ∙ ap (λ k. take k all) (sym (length-append bytes piece)))

@@ -1,8 +1,6 @@
 -- What every call of a link keeps, over several calls.
-use Rattle.std.proofs.Common.{ℕ, ◌++◌, ◌∷◌, List, [], Option, Some, None, Result, Ok, Err, refl, ap, sym, append-nil, append_assoc, arith}
-use Rattle.link_base.specs.Links.{Rows, LinkKept, FailedLonger, failed_after}
-use Rattle.link_base.specs.declared.link_errors.LinkErr.{LinkErr}
-use Rattle.link_base.specs.declared.link_errors.LinkErr.TheVariants.{Failed, NoMemory}
+use Rattle.std.proofs.Common.{ℕ, ◌++◌, List, [], Option, Some, None, refl, ap, sym, append-nil, append_assoc, arith}
+use Rattle.link_base.specs.Links.{Rows, LinkKept, FailedLonger}
 
 pub longer_refl : (urls : Option (List (List ℕ))) → FailedLonger urls urls
 longer_refl None = ([], refl)
@@ -12,13 +10,12 @@ pub longer_trans : (a b c : Option (List (List ℕ))) → FailedLonger a b → F
 longer_trans None b c p q = (p.0 ++ q.0, rw q.1 (rw p.1 refl))
 longer_trans (Some urls) b c p q = (p.0 ++ q.0, rw q.1 (rw p.1 (ap Some (append_assoc urls p.0 q.0))))
 
-pub longer_after : {T : Type 0} (urls : Option (List (List ℕ))) (url : List ℕ) (result : Result T LinkErr) → FailedLonger urls (failed_after urls url result)
-longer_after urls url (Ok x) = longer_refl urls
-longer_after urls url (Err Failed) = (url ∷ [], refl)
-longer_after urls url (Err NoMemory) = longer_refl urls
+module _ {L : Type 0} (agrees : L → Rows → Type 0) (faults asked : L → ℕ)
+    (failed_urls : L → Option (List (List ℕ))) where
+  abbrev Kept : L → L → Type 0
+  Kept = LinkKept agrees faults asked failed_urls
 
-module _ {L : Type 0} (agrees : L → Rows → Type 0) (faults asked : L → ℕ) (failed_urls : L → Option (List (List ℕ))) where
-  pub kept_refl : (link : L) → LinkKept agrees faults asked failed_urls link link
+  pub kept_refl : (link : L) → Kept link link
   kept_refl link = record {
     agreement = λ w h. h;
     faults_later = omega arith;
@@ -26,7 +23,7 @@ module _ {L : Type 0} (agrees : L → Rows → Type 0) (faults asked : L → ℕ
     failed_longer = longer_refl (failed_urls link);
   }
 
-  pub kept_trans : (a b c : L) → LinkKept agrees faults asked failed_urls a b → LinkKept agrees faults asked failed_urls b c → LinkKept agrees faults asked failed_urls a c
+  pub kept_trans : (a b c : L) → Kept a b → Kept b c → Kept a c
   kept_trans a b c p q = record {
     agreement = λ w h. q.agreement w (p.agreement w h);
     faults_later = omega (arith, p.faults_later, q.faults_later);

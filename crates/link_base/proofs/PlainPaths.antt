@@ -1,88 +1,46 @@
--- The paths of plain coordinates are paths of files.
-use Rattle.std.proofs.Common.{◌≡◌, ℕ, Bool, true, false, not, ◌&&◌, ◌||◌, ◌==◌, List, [], ◌∷◌, ◌++◌, refl, sym, ◌∙◌, ap, append_assoc, codes, append-nil, ◌⊎◌, inl, inr}
-use Rattle.std.proofs.lemmas.Bool.{eqb-true, false_from_ne_true}
-use Rattle.std.specs.List.{list_all as every, slice_split}
+-- The paths of plain coordinates and modules are paths of files.
+use Rattle.std.proofs.Common.{◌≡◌, ℕ, Bool, true, false, not, ◌&&◌, ◌||◌, ◌==◌, List, [], ◌∷◌, ◌++◌, refl, sym, ◌∙◌, append_assoc, codes, append-nil, inl, inr}
+use Rattle.std.specs.List.{list_all}
+use Rattle.std.proofs.lemmas.Bool.{and_parts, and_from, or_left, cases_Bool}
 use Rattle.ascii_bytes.specs.Classes.{is_word_byte, is_plain_byte}
-use Rattle.res_base.specs.Plain.{is_dot, goes_on_as_org, is_at_most_two_dots, is_plain_org, is_plain_name, is_plain_coord}
-use Rattle.res_base.specs.Paths.{slashed, slashed_byte, pom_path_of}
+use Rattle.res_base.specs.Plain.{is_dot, goes_on_as_org, is_at_most_two_dots, is_plain_org, is_plain_name, is_plain_module, is_plain_coord}
+use Rattle.res_base.specs.Paths.{slashed, slashed_byte, file_stem, dash_of, pom_path_of, file_path_of, listing_path_of}
 use Rattle.res_base.specs.declared.coord.Coord.{Coord}
-use Rattle.link_base.specs.FilePaths.{is_segment_byte, is_segment, is_slash, is_file_path}
-
-and_parts : (a b : Bool) → (a && b) ≡ true → (a ≡ true) × (b ≡ true)
-and_parts true b h = (refl, h)
-and_parts false b h = cc
-
-and_both : (a b : Bool) → a ≡ true → b ≡ true → (a && b) ≡ true
-and_both a b p q = rw (p, q) refl
-
-or_first : (a b : Bool) → a ≡ true → (a || b) ≡ true
-or_first a b p = rw p refl
-
--- a byte that passes a test is no byte that does not
-not_at : (test : ℕ → Bool) (k b : ℕ) → test k ≡ false → test b ≡ true → (b == k) ≡ false
-not_at test k b f t = false_from_ne_true (b == k) (λ e. let same : b ≡ k = eqb-true b k e in let bad : false ≡ true = sym f ∙ (ap test (sym same) ∙ t) in cc)
-
-every-append : (test : ℕ → Bool) (a b : List ℕ) → every test a ≡ true → every test b ≡ true → every test (a ++ b) ≡ true
-every-append test [] b p q = q
-every-append test (x ∷ a) b p q = let both = and_parts (test x) (every test a) p in and_both _ _ both.0 (every-append test a b both.1 q)
-
-every_weaker : (one other : ℕ → Bool) → ((b : ℕ) → one b ≡ true → other b ≡ true) → (text : List ℕ) → every one text ≡ true → every other text ≡ true
-every_weaker one other w [] p = refl
-every_weaker one other w (b ∷ text) p = let both = and_parts (one b) (every one text) p in and_both _ _ (w b both.0) (every_weaker one other w text both.1)
+use Rattle.res_base.specs.declared.coord.Module.{Module}
+use Rattle.link_base.specs.FilePaths.{is_segment_byte, is_segment, is_file_path}
+use Rattle.link_base.proofs.Segments.{not_at, list_all_both, list_all_weaker, segment_before, segment_alone, longer_segment}
 
 plain_in_segment : (b : ℕ) → is_plain_byte b ≡ true → is_segment_byte b ≡ true
-plain_in_segment b p = or_first (is_plain_byte b) (b == 126) p
+plain_in_segment b p = or_left (is_plain_byte b) (b == 126) p
 
-word_in_plain : (b : ℕ) → is_word_byte b ≡ true → is_plain_byte b ≡ true
-word_in_plain b p = or_first (is_word_byte b) (b == 46 || b == 43) p
+word_in_segment : (b : ℕ) → is_word_byte b ≡ true → is_segment_byte b ≡ true
+word_in_segment b p = plain_in_segment b (or_left (is_word_byte b) (b == 46 || b == 43) p)
 
--- one segment is split off at its slash
-split_segment : (segment rest : List ℕ) → every is_segment_byte segment ≡ true → slice_split is_slash (segment ++ (47 ∷ rest)) ≡ segment ∷ slice_split is_slash rest
-split_segment [] rest p = refl
-split_segment (b ∷ segment) rest p =
-    let both = and_parts (is_segment_byte b) (every is_segment_byte segment) p in
-    let no : is_slash b ≡ false = not_at is_segment_byte 47 b refl both.0 in
-    rw (no, split_segment segment rest both.1) refl
-
-split_last : (segment : List ℕ) → every is_segment_byte segment ≡ true → slice_split is_slash segment ≡ segment ∷ []
-split_last [] p = refl
-split_last (b ∷ segment) p =
-    let both = and_parts (is_segment_byte b) (every is_segment_byte segment) p in
-    let no : is_slash b ≡ false = not_at is_segment_byte 47 b refl both.0 in
-    rw (no, split_last segment both.1) refl
-
--- a segment before a path makes a path
-pub segment_before : (segment rest : List ℕ) → is_segment segment ≡ true → is_file_path rest ≡ true → is_file_path (segment ++ (47 ∷ rest)) ≡ true
-segment_before segment rest p q =
-    let both = and_parts (every is_segment_byte segment) (not (is_at_most_two_dots segment)) p in
-    rw (split_segment segment rest both.0) (and_both (is_segment segment) (is_file_path rest) p q)
-
--- a segment alone is one
-pub segment_alone : (segment : List ℕ) → is_segment segment ≡ true → is_file_path segment ≡ true
-segment_alone segment p =
-    let both = and_parts (every is_segment_byte segment) (not (is_at_most_two_dots segment)) p in
-    rw (split_last segment both.0) (and_both (is_segment segment) true p refl)
+plain_bytes : (name : List ℕ) → is_plain_name name ≡ true → list_all is_plain_byte name ≡ true
+plain_bytes name p =
+    (and_parts (list_all is_plain_byte name) (not (is_at_most_two_dots name)) p).0
 
 -- a plain name is a segment
 pub name_is_segment : (name : List ℕ) → is_plain_name name ≡ true → is_segment name ≡ true
 name_is_segment name p =
-    let both = and_parts (every is_plain_byte name) (not (is_at_most_two_dots name)) p in
-    and_both _ _ (every_weaker is_plain_byte is_segment_byte plain_in_segment name both.0) both.1
+    let both = and_parts (list_all is_plain_byte name) (not (is_at_most_two_dots name)) p in
+    and_from (list_all is_segment_byte name) (not (is_at_most_two_dots name))
+    (list_all_weaker is_plain_byte is_segment_byte plain_in_segment name (plain_bytes name p)) both.1
 
 -- so is a part of an org
-word_is_segment : (b : ℕ) (word : List ℕ) → every is_word_byte (b ∷ word) ≡ true → is_segment (b ∷ word) ≡ true
+word_is_segment : (b : ℕ) (word : List ℕ) → list_all is_word_byte (b ∷ word) ≡ true → is_segment (b ∷ word) ≡ true
 word_is_segment b word p =
-    let both = and_parts (is_word_byte b) (every is_word_byte word) p in
-    let no : is_dot b ≡ false = not_at is_word_byte 46 b refl both.0 in
-    and_both _ _ (every_weaker is_word_byte is_segment_byte (λ c h. plain_in_segment c (word_in_plain c h)) (b ∷ word) p) (rw no refl)
+    let both = and_parts (is_word_byte b) (list_all is_word_byte word) p in
+    and_from (list_all is_segment_byte (b ∷ word)) (not (is_at_most_two_dots (b ∷ word)))
+    (list_all_weaker is_word_byte is_segment_byte word_in_segment (b ∷ word) p)
+    (rw (not_at is_word_byte 46 b refl both.0) refl)
 
-word_then : (word : List ℕ) (b : ℕ) → every is_word_byte word ≡ true → is_word_byte b ≡ true → is_segment (word ++ (b ∷ [])) ≡ true
-word_then [] b p q = word_is_segment b [] (and_both _ _ q refl)
-word_then (c ∷ word) b p q = word_is_segment c (word ++ (b ∷ [])) (every-append is_word_byte (c ∷ word) (b ∷ []) p (and_both _ _ q refl))
-
-both_ways : (b : Bool) → (b ≡ true) ⊎ (b ≡ false)
-both_ways true = inl refl
-both_ways false = inr refl
+word_then : (word : List ℕ) (b : ℕ) → list_all is_word_byte word ≡ true → is_word_byte b ≡ true
+    → is_segment (word ++ (b ∷ [])) ≡ true
+word_then [] b p q = word_is_segment b [] (and_from (is_word_byte b) true q refl)
+word_then (c ∷ word) b p q =
+    word_is_segment c (word ++ (b ∷ []))
+    (list_all_both is_word_byte (c ∷ word) (b ∷ []) p (and_from (is_word_byte b) true q refl))
 
 from_second : (a b : Bool) → a ≡ false → (a || b) ≡ true → b ≡ true
 from_second a b n h = rw n at h
@@ -91,55 +49,88 @@ slashed_word : (b : ℕ) → is_word_byte b ≡ true → slashed_byte b ≡ b
 slashed_word b p = rw (not_at is_word_byte 46 b refl p) refl
 
 -- an org whose first part has begun with this word, as a folder before a path
-org_before : (word text rest : List ℕ) (in_part : Bool) → every is_word_byte word ≡ true → (in_part ≡ true → is_segment word ≡ true) → goes_on_as_org in_part text ≡ true
-    → is_file_path rest ≡ true → is_file_path ((word ++ slashed text) ++ (47 ∷ rest)) ≡ true
+org_before : (word text rest : List ℕ) (in_part : Bool) → list_all is_word_byte word ≡ true
+    → (in_part ≡ true → is_segment word ≡ true) → goes_on_as_org in_part text ≡ true → is_file_path rest ≡ true
+    → is_file_path ((word ++ slashed text) ++ (47 ∷ rest)) ≡ true
 org_before word [] rest in_part w s g r = rw append-nil (segment_before word rest (s g) r)
 org_before word (b ∷ text) rest in_part w s g r =
     let both = and_parts (is_word_byte b || (is_dot b && in_part)) (goes_on_as_org (is_word_byte b) text) g in
-    elim (both_ways (is_word_byte b)) [
-      | inl word_byte ↦ rw (slashed_word b word_byte, ← append_assoc word (b ∷ []) (slashed text)) (org_before (word ++ (b ∷ [])) text rest (is_word_byte b) (every-append is_word_byte word (b ∷ []) w (and_both _ _ word_byte refl)) (λ _. word_then word b w word_byte) both.1 r)
+    elim (cases_Bool (is_word_byte b)) [
+      | inl word_byte ↦
+          let one : List ℕ = b ∷ [] in
+          let longer = list_all_both is_word_byte word one w (and_from (is_word_byte b) true word_byte refl) in
+          rw (slashed_word b word_byte, ← append_assoc word one (slashed text))
+          (org_before (word ++ one) text rest (is_word_byte b) longer (λ _. word_then word b w word_byte) both.1 r)
       | inr other_byte ↦
-          let dot = and_parts (is_dot b) in_part (from_second (is_word_byte b) (is_dot b && in_part) other_byte both.0) in
-          let after : is_file_path (slashed text ++ (47 ∷ rest)) ≡ true = org_before [] text rest (is_word_byte b) refl (λ e. let bad : false ≡ true = sym other_byte ∙ e in cc) both.1 r in
-          rw (dot.0, append_assoc word (47 ∷ slashed text) (47 ∷ rest)) (segment_before word (slashed text ++ (47 ∷ rest)) (s dot.1) after)
+          let ends = from_second (is_word_byte b) (is_dot b && in_part) other_byte both.0 in
+          let dot = and_parts (is_dot b) in_part ends in
+          let no_word : is_word_byte b ≡ true → is_segment [] ≡ true =
+          λ e. let bad : false ≡ true = sym other_byte ∙ e in cc in
+          let after : is_file_path (slashed text ++ (47 ∷ rest)) ≡ true =
+          org_before [] text rest (is_word_byte b) refl no_word both.1 r in
+          rw (dot.0, append_assoc word (47 ∷ slashed text) (47 ∷ rest))
+          (segment_before word (slashed text ++ (47 ∷ rest)) (s dot.1) after)
     ]
-
-and_false : (b : Bool) → (b && false) ≡ false
-and_false true = refl
-and_false false = refl
-
-no_dots : (a b : List ℕ) → every is_dot (a ++ (45 ∷ b)) ≡ false
-no_dots [] b = refl
-no_dots (x ∷ a) b = rw (no_dots a b) (and_false (is_dot x))
-
--- the name of a file: a name, a dash and what follows it
-dashed : (name rest : List ℕ) → is_plain_name name ≡ true → every is_plain_byte rest ≡ true → is_segment (name ++ (45 ∷ rest)) ≡ true
-dashed name rest p q =
-    let both = and_parts (every is_plain_byte name) (not (is_at_most_two_dots name)) p in
-    let bytes : every is_plain_byte (name ++ (45 ∷ rest)) ≡ true = every-append is_plain_byte name (45 ∷ rest) both.0 q in
-    and_both _ _ (every_weaker is_plain_byte is_segment_byte plain_in_segment (name ++ (45 ∷ rest)) bytes) (rw (no_dots name rest) refl)
 
 no_word : false ≡ true → is_segment [] ≡ true
 no_word e = cc
 
--- a POM path, its parts to the right
-pom_path_parts : (c : Coord) → pom_path_of c
-    ≡ slashed c.«module».org ++ (47 ∷ (c.«module».name ++ (47 ∷ (c.version ++ (47 ∷ (c.«module».name ++ (45 ∷ (c.version ++ codes ".pom"))))))))
-pom_path_parts c = simp append_assoc
+-- the folder of an org before a path
+org_folder : (org rest : List ℕ) → is_plain_org org ≡ true → is_file_path rest ≡ true
+    → is_file_path (slashed org ++ (47 ∷ rest)) ≡ true
+org_folder org rest p r = org_before [] org rest false refl no_word p r
 
--- the POM of a plain coordinate has a path of a file
-pub pom_path_is_file_path : (c : Coord) → is_plain_coord c ≡ true → is_file_path (pom_path_of c) ≡ true
-pom_path_is_file_path c p =
+-- a path of a coordinate, its parts to the right
+abbrev after_org : List ℕ → List ℕ → List ℕ → List ℕ
+after_org name version rest = name ++ (47 ∷ (version ++ (47 ∷ (name ++ (45 ∷ (version ++ rest))))))
+
+stem_parts : (c : Coord) (rest : List ℕ)
+    → file_stem c ++ rest ≡ slashed c.«module».org ++ (47 ∷ after_org c.«module».name c.version rest)
+stem_parts c rest = simp append_assoc
+
+-- what begins as the files of a plain coordinate do, and goes on with plain bytes
+stem_path_is_file_path : (c : Coord) (rest : List ℕ) → is_plain_coord c ≡ true → list_all is_plain_byte rest ≡ true
+    → is_file_path (file_stem c ++ rest) ≡ true
+stem_path_is_file_path c rest p q =
     let org = c.«module».org in
     let name = c.«module».name in
     let version = c.version in
-    let both = and_parts (is_plain_org org && is_plain_name name) (is_plain_name version) p in
-    let front = and_parts (is_plain_org org) (is_plain_name name) both.0 in
-    let bytes = and_parts (every is_plain_byte version) (not (is_at_most_two_dots version)) both.1 in
-    let stem : List ℕ = name ++ (45 ∷ (version ++ codes ".pom")) in
-    let behind : List ℕ = name ++ (47 ∷ (version ++ (47 ∷ stem))) in
-    let file : is_file_path stem ≡ true = segment_alone stem (dashed name (version ++ codes ".pom") front.1 (every-append is_plain_byte version (codes ".pom") bytes.0 refl)) in
-    let path : is_file_path behind ≡ true =
-    segment_before name (version ++ (47 ∷ stem)) (name_is_segment name front.1) (segment_before version stem (name_is_segment version both.1) file) in
-    let whole : is_file_path (slashed org ++ (47 ∷ behind)) ≡ true = org_before [] org behind false refl no_word front.0 path in
-    rw (pom_path_parts c) whole
+    let both = and_parts (is_plain_module c.«module») (is_plain_name version) p in
+    let parts = and_parts (is_plain_org org) (is_plain_name name) both.0 in
+    let after : List ℕ = 45 ∷ (version ++ rest) in
+    let bytes : list_all is_plain_byte after ≡ true =
+    list_all_both is_plain_byte version rest (plain_bytes version both.1) q in
+    let segment = list_all_weaker is_plain_byte is_segment_byte plain_in_segment after bytes in
+    let file : is_file_path (name ++ after) ≡ true =
+    segment_alone (name ++ after) (longer_segment name after (name_is_segment name parts.1) segment refl) in
+    let in_version = segment_before version (name ++ after) (name_is_segment version both.1) file in
+    let in_name = segment_before name (version ++ (47 ∷ (name ++ after))) (name_is_segment name parts.1) in_version in
+    rw (stem_parts c rest) (org_folder org (after_org name version rest) parts.0 in_name)
+
+-- the POM of a plain coordinate has a path of a file
+pub pom_path_is_file_path : (c : Coord) → is_plain_coord c ≡ true → is_file_path (pom_path_of c) ≡ true
+pom_path_is_file_path c p = stem_path_is_file_path c (codes ".pom") p refl
+
+dash_is_plain : (classifier : List ℕ) → list_all is_plain_byte (dash_of classifier) ≡ true
+dash_is_plain [] = refl
+dash_is_plain (b ∷ classifier) = refl
+
+-- so has each file of it whose extension and classifier have plain bytes alone; there may be no classifier
+pub file_path_is_file_path : (c : Coord) (ext classifier : List ℕ) → is_plain_coord c ≡ true
+    → list_all is_plain_byte ext ≡ true → list_all is_plain_byte classifier ≡ true
+    → is_file_path (file_path_of c ext classifier) ≡ true
+file_path_is_file_path c ext classifier p e k =
+    stem_path_is_file_path c (dash_of classifier ++ (classifier ++ (46 ∷ ext))) p
+    (list_all_both is_plain_byte (dash_of classifier) (classifier ++ (46 ∷ ext)) (dash_is_plain classifier)
+    (list_all_both is_plain_byte classifier (46 ∷ ext) k e))
+
+listing_parts : (m : Module) → listing_path_of m ≡ slashed m.org ++ (47 ∷ (m.name ++ (47 ∷ codes "maven-metadata.xml")))
+listing_parts m = simp append_assoc
+
+-- the listing of a plain module has a path of a file
+pub listing_path_is_file_path : (m : Module) → is_plain_module m ≡ true → is_file_path (listing_path_of m) ≡ true
+listing_path_is_file_path m p =
+    let parts = and_parts (is_plain_org m.org) (is_plain_name m.name) p in
+    let file : is_file_path (m.name ++ (47 ∷ codes "maven-metadata.xml")) ≡ true =
+    segment_before m.name (codes "maven-metadata.xml") (name_is_segment m.name parts.1) refl in
+    rw (listing_parts m) (org_folder m.org (m.name ++ (47 ∷ codes "maven-metadata.xml")) parts.0 file)

@@ -1,7 +1,7 @@
 -- What a link in memory holds.
 use Rattle.std.specs.Prelude.{ℕ, List, Option, Some}
 use Rattle.link_base.specs.Links.{Rows}
-use Rattle.link_base.specs.Memory.{HoldsAs}
+use Rattle.link_base.specs.MemoryCalls.{HoldsAs}
 use Rattle.link_base.specs.declared.links.OpenFile.{OpenFile}
 use Rattle.link_base.specs.declared.memory_calls.Calls.{Calls}
 use Rattle.link_base.specs.declared.memory_link.MemLink.{MemLink}

@@ -1,7 +1,7 @@
-//! What the resolver asks of the outside: links that give files by their URLs, sinks that take
-//! bytes, and clocks. Each is a trait, with one object in memory that says what it holds.
+//! What the resolver asks of the outside: links, sinks and clocks, as traits and in memory.
 #![tactic(auto)]
 
+mod addresses;
 mod clocks;
 mod link_errors;
 mod links;
@@ -15,6 +15,7 @@ mod sinks;
 mod tests;
 mod world_files;
 
+pub use addresses::{Address, read_address};
 pub use clocks::Clock;
 pub use link_errors::LinkErr;
 pub use links::{Got, Link, Next, OpenFile, Opened};

@@ -1,6 +1,6 @@
 //! Why a link gave no answer.
 ghost use Rattle.std.specs.Prelude.{◌≡◌};
-ghost use Rattle.link_base.specs.declared.link_errors.LinkErr.TheVariants.{NoMemory as wants};
+ghost use Rattle.link_base.specs.declared.link_errors.LinkErr.TheVariants.{NoMemory as OutOfMemory};
 
 use res_base::NoMemory;
 use std::alloc::{AllocError, AllocFailed};
@@ -9,12 +9,12 @@ use std::alloc::{AllocError, AllocFailed};
 pub enum LinkErr {
     /// The link failed. Its count of faults says so too.
     Failed,
-    /// Memory was wanting.
+    /// Out of memory.
     NoMemory,
 }
 
 impl From<NoMemory> for LinkErr {
-    ghost from_gives = { λ _ e. e ≡ wants };
+    ghost from_gives = { λ _ e. e ≡ OutOfMemory };
 
     fn from(_: NoMemory) -> LinkErr {
         LinkErr::NoMemory
@@ -22,7 +22,7 @@ impl From<NoMemory> for LinkErr {
 }
 
 impl From<AllocError> for LinkErr {
-    ghost from_gives = { λ _ e. e ≡ wants };
+    ghost from_gives = { λ _ e. e ≡ OutOfMemory };
 
     fn from(_: AllocError) -> LinkErr {
         LinkErr::NoMemory
@@ -30,7 +30,7 @@ impl From<AllocError> for LinkErr {
 }
 
 impl<T: Drop> From<AllocFailed<T>> for LinkErr {
-    ghost from_gives = { λ _ e. e ≡ wants };
+    ghost from_gives = { λ _ e. e ≡ OutOfMemory };
 
     fn from(_: AllocFailed<T>) -> LinkErr {
         LinkErr::NoMemory

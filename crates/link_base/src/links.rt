@@ -2,10 +2,10 @@
 ghost use Rattle.std.specs.Prelude.{◌≡◌, ◌↔◌, List, ℕ, IfOk, None, IsSome, IsTrue, Option};
 ghost use Rattle.std.specs.Option.{ForSome};
 ghost use Rattle.res_base.specs.Causes.{HasCause, counted};
-ghost use Rattle.link_base.specs.Links.{Rows, url_of, got_of, FitsLimit, opened_of, file_after_open, file_after_piece, failed_after, url_of_file, IsNext, IsWithinPiece, LinkKept};
+ghost use Rattle.link_base.specs.Links.{Rows, AnswersGet, AnswersOpen, AnswersPiece, FitsLimit, file_after_open, file_after_piece, failed_after, url_of_file, IsWithinPiece, LinkKept};
 ghost use Rattle.link_base.specs.FilePaths.{IsFilePath};
 ghost use Rattle.link_base.specs.declared.links.OpenFile.{OpenFile};
-ghost use Rattle.res_base.specs.World.{at};
+ghost use Rattle.res_base.specs.Paths.{url_at};
 
 use crate::LinkErr;
 use res_base::{List, Text};
@@ -66,12 +66,13 @@ pub trait Link: Drop {
     /// The whole file at a URL. An open file is closed.
     fn get(&mut self, alloc: Global, address: &str, path: &str, limit: u64) -> Result<Got, LinkErr>
         requires { IsFilePath path.now }
-        ensures answer { (w : Rows) → agrees self.old w → IfOk result (λ got. got ≡ got_of (at w (url_of address.now path.now)) limit) }
+        ensures answer { (w : Rows) → agrees self.old w → AnswersGet w (url_at address.now path.now) limit result }
         ensures within { IfOk result (FitsLimit limit) }
         ensures cause { HasCause LinkErr.Failed (faults self.old) (faults self.new) result }
         ensures asked { asked self.new ≡ counted (asked self.old) }
         ensures closed { open_file self.new ≡ None }
-        ensures failed { failed_urls self.new ≡ failed_after (failed_urls self.old) (url_of address.now path.now) result }
+        ensures failed { failed_urls self.new
+            ≡ failed_after (failed_urls self.old) (url_at address.now path.now) result }
         ensures kept { LinkKept agrees faults asked failed_urls self.old self.new };
 
     /// Opens the file at a URL, to be given in pieces. An earlier open file is closed.
@@ -83,23 +84,25 @@ pub trait Link: Drop {
         limit: u64,
     ) -> Result<Opened, LinkErr>
         requires { IsFilePath path.now }
-        ensures answer { (w : Rows) → agrees self.old w → IfOk result (λ opened. opened ≡ opened_of (at w (url_of address.now path.now))) }
+        ensures answer { (w : Rows) → agrees self.old w → AnswersOpen w (url_at address.now path.now) result }
         ensures cause { HasCause LinkErr.Failed (faults self.old) (faults self.new) result }
         ensures asked { asked self.new ≡ counted (asked self.old) }
-        ensures opened { open_file self.new ≡ file_after_open (url_of address.now path.now) limit result }
-        ensures failed { failed_urls self.new ≡ failed_after (failed_urls self.old) (url_of address.now path.now) result }
+        ensures opened { open_file self.new ≡ file_after_open (url_at address.now path.now) limit result }
+        ensures failed { failed_urls self.new
+            ≡ failed_after (failed_urls self.old) (url_at address.now path.now) result }
         ensures kept { LinkKept agrees faults asked failed_urls self.old self.new };
 
     /// Empties the buffer, and puts the next 1 to 65,536 bytes of the open file there. After any
     /// other answer the buffer is empty and no file is open.
     fn next_piece(&mut self, alloc: Global, into: &mut Vec<u8>) -> Result<Next, LinkErr>
         requires { IsSome (open_file self.old) }
-        ensures answer { (w : Rows) → agrees self.old w → ForSome (open_file self.old) (λ file. IsNext file (at w file.url) result into.new.items) }
+        ensures answer { (w : Rows) → agrees self.old w → AnswersPiece w (open_file self.old) result into.new.items }
         ensures within { ForSome (open_file self.old) (λ file. IsWithinPiece file result into.new.items) }
         ensures cause { HasCause LinkErr.Failed (faults self.old) (faults self.new) result }
         ensures asked { asked self.new ≡ asked self.old }
         ensures moved { open_file self.new ≡ file_after_piece (open_file self.old) result into.new.items }
-        ensures failed { failed_urls self.new ≡ failed_after (failed_urls self.old) (url_of_file (open_file self.old)) result }
+        ensures failed { failed_urls self.new
+            ≡ failed_after (failed_urls self.old) (url_of_file (open_file self.old)) result }
         ensures kept { LinkKept agrees faults asked failed_urls self.old self.new };
 
     fn is_open(&self) -> bool

@@ -1,6 +1,5 @@
 //! The calls of an object in memory.
 ghost use Rattle.std.specs.Prelude.{◌≡◌};
-ghost use Rattle.res_base.specs.Causes.{counted};
 
 use res_base::List;
 use std::alloc::Global;
@@ -15,7 +14,7 @@ pub(crate) struct Calls {
 }
 
 impl Calls {
-    ghost use Rattle.link_base.specs.Memory.{is_to_fail, no_calls};
+    ghost use Rattle.link_base.specs.MemoryCalls.{is_to_fail, no_calls, with_call, with_fault};
 
     pub(crate) fn new(failing: List<u64>) -> Calls
         ensures { result ≡ no_calls failing }
@@ -30,7 +29,7 @@ impl Calls {
     /// Counts a call, and says whether it is to fail.
     pub(crate) fn next_fails(&mut self) -> bool
         ensures value { result ≡ is_to_fail self.old }
-        ensures counts { self.new ≡ record self.old { made = counted self.old.made } }
+        ensures counts { self.new ≡ with_call self.old }
     {
         let call = self.made;
         self.made = self.made.saturating_add(1);
@@ -39,7 +38,7 @@ impl Calls {
 
     /// Counts a fault.
     pub(crate) fn add_fault(&mut self)
-        ensures { self.new ≡ record self.old { faults = counted self.old.faults } }
+        ensures { self.new ≡ with_fault self.old }
     {
         self.faults = self.faults.saturating_add(1);
     }

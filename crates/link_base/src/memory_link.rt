@@ -2,10 +2,10 @@
 ghost use Rattle.std.specs.Prelude.{◌≡◌, [], ◌∷◌, ◌++◌, None, Some, IfOk, IsSome};
 ghost use Rattle.std.specs.Option.{ForSome};
 ghost use Rattle.res_base.specs.Causes.{counted, HasCause};
-ghost use Rattle.link_base.specs.Links.{Rows, url_of, got_of, FitsLimit, opened_of, file_after_open, file_after_piece, failed_after, url_of_file, IsNext, IsWithinPiece, LinkKept};
-ghost use Rattle.link_base.specs.Memory.{HoldsAs, IsNextCall, is_to_fail, no_calls};
-ghost use Rattle.res_base.specs.World.{at};
-ghost use Rattle.link_base.specs.Reading.{IsInWorld};
+ghost use Rattle.link_base.specs.Links.{Rows, AnswersGet, AnswersOpen, AnswersPiece, FitsLimit, file_after_open, file_after_piece, failed_after, url_of_file, IsWithinPiece, LinkKept};
+ghost use Rattle.link_base.specs.MemoryCalls.{HoldsAs, IsNextCall, is_to_fail, no_calls, with_call, with_fault};
+ghost use Rattle.res_base.specs.Paths.{url_at};
+ghost use Rattle.link_base.specs.OpenFiles.{IsInWorld};
 
 use crate::memory_calls::Calls;
 use crate::world_files::WorldFiles;
@@ -62,7 +62,7 @@ impl MemLink {
         ensures fails { result ≡ is_to_fail self.old.calls }
         ensures asked { self.new.asked ≡ counted self.old.asked }
         ensures closed { self.new.reading ≡ None }
-        ensures calls { self.new.calls ≡ record self.old.calls { made = counted self.old.calls.made } }
+        ensures calls { self.new.calls ≡ with_call self.old.calls }
         ensures files { self.new.files ≡ self.old.files }
         ensures failed { self.new.failed ≡ self.old.failed }
     {
@@ -73,7 +73,8 @@ impl MemLink {
 
     // Notes that a call at a URL failed.
     fn fail(&mut self, url: Text) -> LinkErr
-        ensures failed { result ≡ LinkErr.Failed → self.new ≡ record self.old { calls = record self.old.calls { faults = counted self.old.calls.faults }; failed = self.old.failed ++ url ∷ [] } }
+        ensures failed { result ≡ LinkErr.Failed
+            → self.new ≡ record self.old { calls = with_fault self.old.calls; failed = self.old.failed ++ url ∷ [] } }
         ensures memory { result ≡ LinkErr.NoMemory → self.new ≡ self.old }
     {
         match self.failed.push(url) {
@@ -100,12 +101,12 @@ impl Link for MemLink {
     ghost failed_urls = { λ link. Some link.failed };
 
     fn get(&mut self, alloc: Global, address: &str, path: &str, limit: u64) -> Result<Got, LinkErr>
-        ensures answer { (w : Rows) → AgreesWith self.old w → IfOk result (λ got. got ≡ got_of (at w (url_of address.now path.now)) limit) }
+        ensures answer { (w : Rows) → AgreesWith self.old w → AnswersGet w (url_at address.now path.now) limit result }
         ensures within { IfOk result (FitsLimit limit) }
         ensures cause { HasCause LinkErr.Failed (faults_of self.old) (faults_of self.new) result }
         ensures asked { asked_of self.new ≡ counted (asked_of self.old) }
         ensures closed { file_of self.new ≡ None }
-        ensures failed { failed_of self.new ≡ failed_after (failed_of self.old) (url_of address.now path.now) result }
+        ensures failed { failed_of self.new ≡ failed_after (failed_of self.old) (url_at address.now path.now) result }
         ensures kept { LinkKept AgreesWith faults_of asked_of failed_of self.old self.new }
         ensures world { world_of self.new ≡ world_of self.old }
         ensures call { IsNextCall LinkErr.Failed (calls_of self.old) (calls_of self.new) result }
@@ -135,11 +136,11 @@ impl Link for MemLink {
         path: &str,
         limit: u64,
     ) -> Result<Opened, LinkErr>
-        ensures answer { (w : Rows) → AgreesWith self.old w → IfOk result (λ opened. opened ≡ opened_of (at w (url_of address.now path.now))) }
+        ensures answer { (w : Rows) → AgreesWith self.old w → AnswersOpen w (url_at address.now path.now) result }
         ensures cause { HasCause LinkErr.Failed (faults_of self.old) (faults_of self.new) result }
         ensures asked { asked_of self.new ≡ counted (asked_of self.old) }
-        ensures opened { file_of self.new ≡ file_after_open (url_of address.now path.now) limit result }
-        ensures failed { failed_of self.new ≡ failed_after (failed_of self.old) (url_of address.now path.now) result }
+        ensures opened { file_of self.new ≡ file_after_open (url_at address.now path.now) limit result }
+        ensures failed { failed_of self.new ≡ failed_after (failed_of self.old) (url_at address.now path.now) result }
         ensures kept { LinkKept AgreesWith faults_of asked_of failed_of self.old self.new }
         ensures world { world_of self.new ≡ world_of self.old }
         ensures call { IsNextCall LinkErr.Failed (calls_of self.old) (calls_of self.new) result }
@@ -165,12 +166,13 @@ impl Link for MemLink {
 
     fn next_piece(&mut self, alloc: Global, into: &mut Vec<u8>) -> Result<Next, LinkErr>
         requires { IsSome (file_of self.old) }
-        ensures answer { (w : Rows) → AgreesWith self.old w → ForSome (file_of self.old) (λ file. IsNext file (at w file.url) result into.new.items) }
+        ensures answer { (w : Rows) → AgreesWith self.old w → AnswersPiece w (file_of self.old) result into.new.items }
         ensures within { ForSome (file_of self.old) (λ file. IsWithinPiece file result into.new.items) }
         ensures cause { HasCause LinkErr.Failed (faults_of self.old) (faults_of self.new) result }
         ensures asked { asked_of self.new ≡ asked_of self.old }
         ensures moved { file_of self.new ≡ file_after_piece (file_of self.old) result into.new.items }
-        ensures failed { failed_of self.new ≡ failed_after (failed_of self.old) (url_of_file (file_of self.old)) result }
+        ensures failed { failed_of self.new
+            ≡ failed_after (failed_of self.old) (url_of_file (file_of self.old)) result }
         ensures kept { LinkKept AgreesWith faults_of asked_of failed_of self.old self.new }
         ensures world { world_of self.new ≡ world_of self.old }
         ensures call { IsNextCall LinkErr.Failed (calls_of self.old) (calls_of self.new) result }

@@ -1,7 +1,7 @@
 //! A sink in memory.
 ghost use Rattle.std.specs.Prelude.{◌≡◌, [], Some, OnErr, OnOk};
 ghost use Rattle.res_base.specs.Causes.{HasCause};
-ghost use Rattle.link_base.specs.Memory.{IsNextCall, no_calls};
+ghost use Rattle.link_base.specs.MemoryCalls.{IsNextCall, no_calls};
 ghost use Rattle.link_base.specs.MemorySinks.{calls_of, written_of};
 ghost use Rattle.link_base.specs.Sinks.{gained, GainsPrefix};
 

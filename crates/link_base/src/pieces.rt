@@ -2,8 +2,8 @@
 ghost use Rattle.std.specs.Prelude.{◌≡◌, None, IfOk};
 ghost use Rattle.res_base.specs.Causes.{HasCause, counted};
 ghost use Rattle.link_base.specs.FilePaths.{IsFilePath};
-ghost use Rattle.link_base.specs.Links.{Rows, url_of, got_of, FitsLimit, failed_after, LinkKept};
-ghost use Rattle.res_base.specs.World.{at};
+ghost use Rattle.link_base.specs.Links.{Rows, AnswersGet, FitsLimit, failed_after, LinkKept};
+ghost use Rattle.res_base.specs.Paths.{url_at};
 
 use crate::{Got, Link, LinkErr, Next, Opened};
 use res_base::List;
@@ -19,12 +19,13 @@ pub fn get_in_pieces<L: Link>(
     limit: u64,
 ) -> Result<Got, LinkErr>
     requires { IsFilePath path.now }
-    ensures answer { (w : Rows) → L.agrees link.old w → IfOk result (λ got. got ≡ got_of (at w (url_of address.now path.now)) limit) }
+    ensures answer { (w : Rows) → L.agrees link.old w → AnswersGet w (url_at address.now path.now) limit result }
     ensures within { IfOk result (FitsLimit limit) }
     ensures cause { HasCause LinkErr.Failed (L.faults link.old) (L.faults link.new) result }
     ensures asked { L.asked link.new ≡ counted (L.asked link.old) }
     ensures closed { L.open_file link.new ≡ None }
-    ensures failed { L.failed_urls link.new ≡ failed_after (L.failed_urls link.old) (url_of address.now path.now) result }
+    ensures failed { L.failed_urls link.new
+        ≡ failed_after (L.failed_urls link.old) (url_at address.now path.now) result }
     ensures kept { LinkKept L.agrees L.faults L.asked L.failed_urls link.old link.new }
 {
     if link.open(alloc, address, path, limit)? == Opened::Absent {

@@ -2,7 +2,7 @@
 ghost use Rattle.std.specs.Prelude.{◌≡◌, ℕ, List, Option, OnOk, OnErr};
 ghost use Rattle.res_base.specs.Causes.{HasCause};
 ghost use Rattle.link_base.specs.Sinks.{gained, GainsPrefix};
-ghost use Rattle.link_base.specs.declared.sinks.SinkErr.TheVariants.{NoMemory as wants};
+ghost use Rattle.link_base.specs.declared.sinks.SinkErr.TheVariants.{NoMemory as OutOfMemory};
 
 use res_base::NoMemory;
 use std::alloc::{AllocError, Global};
@@ -11,12 +11,12 @@ use std::alloc::{AllocError, Global};
 pub enum SinkErr {
     /// The sink failed. Its count of faults says so too.
     Failed,
-    /// Memory was wanting.
+    /// Out of memory.
     NoMemory,
 }
 
 impl From<NoMemory> for SinkErr {
-    ghost from_gives = { λ _ e. e ≡ wants };
+    ghost from_gives = { λ _ e. e ≡ OutOfMemory };
 
     fn from(_: NoMemory) -> SinkErr {
         SinkErr::NoMemory
@@ -24,7 +24,7 @@ impl From<NoMemory> for SinkErr {
 }
 
 impl From<AllocError> for SinkErr {
-    ghost from_gives = { λ _ e. e ≡ wants };
+    ghost from_gives = { λ _ e. e ≡ OutOfMemory };
 
     fn from(_: AllocError) -> SinkErr {
         SinkErr::NoMemory

@@ -1,5 +1,4 @@
-//! What no clause says: that calls succeed where memory is there, and that a large world is
-//! answered at once.
+//! What no clause says: that calls succeed, and that a large world is answered at once.
 use crate::{
     Clock, Got, Link, LinkErr, MemClock, MemLink, MemSink, Opened, Sink, SinkErr, get_in_pieces,
 };
@@ -7,13 +6,18 @@ use res_base::{List, World};
 use std::alloc::Global;
 use std::test::Fail;
 
-/// What a link has at `f` below an address: the number of bytes, 0 of no file, and one more than
-/// the limit where there are too many.
-fn size_at(alloc: Global, link: &mut MemLink, address: &str, limit: u32) -> Result<u64, LinkErr> {
+/// What a link has at `f` below an address: the number of bytes, nothing of no file, and one more
+/// than the limit where there are too many.
+fn size_at(
+    alloc: Global,
+    link: &mut MemLink,
+    address: &str,
+    limit: u32,
+) -> Result<Option<u64>, LinkErr> {
     match link.get(alloc, address, "f", u64::from(limit))? {
-        Got::Bytes(bytes) => Ok(bytes.len() as u64),
-        Got::Absent => Ok(0),
-        Got::TooLarge => Ok(u64::from(limit) + 1),
+        Got::Bytes(bytes) => Ok(Some(bytes.len() as u64)),
+        Got::Absent => Ok(None),
+        Got::TooLarge => Ok(Some(u64::from(limit) + 1)),
     }
 }
 
@@ -23,11 +27,13 @@ fn a_link_answers_its_world(rt: HostRuntime) -> Result<(), Fail> {
     let mut world = World::new(alloc);
     world.add(alloc, "http://r1/f", b"abc")?;
     world.add(alloc, "http://r1/f", b"wxyz")?;
+    world.add(alloc, "http://r3/f", b"")?;
     let mut link = MemLink::new(alloc, world, List::new(alloc));
-    assert_eq!(rt; size_at(alloc, &mut link, "http://r1", 3)?, 3);
-    assert_eq!(rt; size_at(alloc, &mut link, "http://r1", 1)?, 2);
-    assert_eq!(rt; size_at(alloc, &mut link, "http://r2", 9)?, 0);
-    assert_eq!(rt; link.asked(), 3);
+    assert_eq!(rt; size_at(alloc, &mut link, "http://r1", 3)?, Some(3));
+    assert_eq!(rt; size_at(alloc, &mut link, "http://r1", 1)?, Some(2));
+    assert_eq!(rt; size_at(alloc, &mut link, "http://r2", 9)?, None);
+    assert_eq!(rt; size_at(alloc, &mut link, "http://r3", 0)?, Some(0));
+    assert_eq!(rt; link.asked(), 4);
     Ok(())
 }
 
@@ -84,7 +90,7 @@ fn a_large_world_is_answered_at_once(rt: HostRuntime) -> Result<(), Fail> {
     let mut link = MemLink::new(alloc, world, List::new(alloc));
     for row in 0..30_000u32 {
         let address = format!(in alloc; "http://r{row}")?;
-        assert_eq!(rt; size_at(alloc, &mut link, address.as_str(), 9)?, 3);
+        assert_eq!(rt; size_at(alloc, &mut link, address.as_str(), 9)?, Some(3));
     }
     Ok(())
 }

@@ -1,7 +1,7 @@
 //! The files of a world, to be found by their URLs.
 ghost use Rattle.std.specs.Prelude.{◌≡◌, ◌≤◌, length, OnOk, Some};
 ghost use Rattle.std.specs.Option.{option_copied};
-ghost use Rattle.link_base.specs.Places.{HasPlaces, bytes_at, place_from};
+ghost use Rattle.link_base.specs.UrlPlaces.{HasPlaces, bytes_at, place_from};
 ghost use Rattle.res_base.specs.World.{at};
 
 use indexmap::IndexMap;

@@ -6,21 +6,6 @@ use Rattle.std.proofs.lemmas.List.{drop_more, take_more, reverse-append, take-ap
 use Rattle.std.proofs.lemmas.List.Folds.{list_all-append}
 use Rattle.plain_pom.specs.PlainTree.{is_white, is_character, cut_front, cut_ends}
 
-pub cut_front_more : (text : List ℕ) (i : ℕ) → i < length text → is_white (get_or text i 0) ≡ true → cut_front (drop (i + 1) text) ≡ cut_front (drop i text)
-cut_front_more text i h white = sym (ap cut_front (drop_more text i 0 h) ∙ cond-true (is_white (get_or text i 0)) _ _ white)
-
-pub cut_front_stops : (text : List ℕ) (i : ℕ) → i < length text → is_white (get_or text i 0) ≡ false → cut_front (drop i text) ≡ drop i text
-cut_front_stops text i h ink = ap cut_front (drop_more text i 0 h) ∙ cond-false (is_white (get_or text i 0)) _ _ ink ∙ sym (drop_more text i 0 h)
-
-turned : (text : List ℕ) (i : ℕ) → i < length text → reverse (take (i + 1) text) ≡ get_or text i 0 ∷ reverse (take i text)
-turned text i h = ap reverse (take_more text i 0 h) ∙ reverse-append (take i text) (get_or text i 0 ∷ [])
-
-pub cut_back_more : (text : List ℕ) (i : ℕ) → i < length text → is_white (get_or text i 0) ≡ true → cut_front (reverse (take i text)) ≡ cut_front (reverse (take (i + 1) text))
-cut_back_more text i h white = sym (ap cut_front (turned text i h) ∙ cond-true (is_white (get_or text i 0)) _ _ white)
-
-pub cut_back_stops : (text : List ℕ) (i : ℕ) → i < length text → is_white (get_or text i 0) ≡ false → cut_front (reverse (take (i + 1) text)) ≡ reverse (take (i + 1) text)
-cut_back_stops text i h ink = ap cut_front (turned text i h) ∙ cond-false (is_white (get_or text i 0)) _ _ ink ∙ sym (turned text i h)
-
 module _ (p : ℕ → Bool) where
   front_passes : (text : List ℕ) → list_all p text ≡ true → list_all p (cut_front text) ≡ true
   front_passes [] f = f

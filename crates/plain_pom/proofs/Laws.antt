@@ -267,9 +267,6 @@ pub record Reached (state : State) (bytes : List ℕ) (i : ℕ) : Type 0 where
   pub fits : Fits state (take i bytes)
   pub follows : reads (drop i bytes) state ≡ reads bytes before_root
 
-pub reached_start : (bytes : List ℕ) → Reached before_root bytes 0
-reached_start bytes = record { fits = refl; follows = refl }
-
 pub reached_more : (s t : State) (bytes : List ℕ) (i : ℕ) → i < length bytes → Reached s bytes i → step s (get_or bytes i 0) ≡ Some t → Reached t bytes (i + 1)
 reached_more s t bytes i h here e =
     let b : ℕ = get_or bytes i 0 in

@@ -1,25 +1,25 @@
 //! Classes of bytes, and texts of them.
 ghost use Rattle.std.specs.Prelude.{◌≡◌, ◌<◌, ◌++◌, [], ◌∷◌, IfOk, OnOk, string_bytes, true};
 ghost use Rattle.std.specs.List.{list_all};
-ghost use Rattle.plain_pom.specs.PlainTree.{is_letter as letter_test, is_white as white_test, is_character as character_test, cut_front, cut_back, cut_ends};
+ghost use Rattle.plain_pom.specs.PlainTree.{is_letter, is_white, is_character, cut_front, cut_back, cut_ends};
 
 use res_base::{NoMemory, Text};
 use std::alloc::Global;
 
 pub fn is_letter(byte: u8) -> bool
-    ensures { result ≡ letter_test byte }
+    ensures { result ≡ is_letter byte }
 {
     matches!(byte, b'A'..=b'Z' | b'a'..=b'z')
 }
 
 pub fn is_white(byte: u8) -> bool
-    ensures { result ≡ white_test byte }
+    ensures { result ≡ is_white byte }
 {
     matches!(byte, b'\t' | b'\n' | b'\r' | b' ')
 }
 
 pub fn is_character(byte: u8) -> bool
-    ensures { result ≡ character_test byte }
+    ensures { result ≡ is_character byte }
 {
     matches!(byte, b'\t' | b'\n' | b'\r' | b' '..=b'~') && byte != b'<' && byte != b'&'
 }
@@ -56,7 +56,7 @@ pub fn push_byte(text: &mut String, byte: u8) -> Result<(), NoMemory>
 
 /// The text of these characters, without the white space at both ends.
 pub fn text_of(alloc: Global, bytes: &[u8]) -> Result<Text, NoMemory>
-    requires { list_all character_test bytes.now ≡ true }
+    requires { list_all is_character bytes.now ≡ true }
     ensures { IfOk result (λ text. text ≡ cut_ends bytes.now) }
 {
     let cut = without_back(without_front(bytes));

@@ -1,5 +1,4 @@
-//! The first path's own test for POMs: plain trees, and the projects without dependencies that
-//! they spell.
+//! The first path's own test for POMs: plain trees, and projects without dependencies.
 #![tactic(auto)]
 
 mod bytes;

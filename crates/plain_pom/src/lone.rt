@@ -2,7 +2,7 @@
 ghost use Rattle.std.specs.Prelude.{◌≡◌, IfOk, IsTrue, ◌↔◌, not, codes};
 ghost use Rattle.std.specs.List.{list_all};
 ghost use Rattle.std.specs.Option.{option_copied};
-ghost use Rattle.plain_pom.specs.LonePom.{is_named as named, is_known as known, field as field_of, has_text as text_at, is_childless, is_lone, IsLonePom};
+ghost use Rattle.plain_pom.specs.LonePom.{is_named, is_known, field, has_text, is_childless, is_lone, IsLonePom};
 
 use crate::reader::{PlainErr, read_tree};
 use crate::tree::Tree;
@@ -13,13 +13,13 @@ use std::alloc::Global;
 const GREATEST_LENGTH: usize = 16_777_216;
 
 fn is_named(tree: &Tree, name: &str) -> bool
-    ensures { result ≡ named name.now tree.now }
+    ensures { result ≡ is_named name.now tree.now }
 {
     tree.name.as_str() == name
 }
 
 fn is_known(tree: &Tree) -> bool
-    ensures { result ≡ known tree.now }
+    ensures { result ≡ is_known tree.now }
 {
     is_named(tree, "modelVersion")
         || is_named(tree, "groupId")
@@ -33,7 +33,7 @@ fn is_known(tree: &Tree) -> bool
 }
 
 fn field<'a>(children: &'a [Tree], name: &str) -> Option<&'a Tree>
-    ensures { option_copied result ≡ field_of name.now children.now }
+    ensures { option_copied result ≡ field name.now children.now }
 {
     for child in children {
         if is_named(child, name) {
@@ -44,7 +44,7 @@ fn field<'a>(children: &'a [Tree], name: &str) -> Option<&'a Tree>
 }
 
 fn has_text(children: &[Tree], name: &str) -> bool
-    ensures { result ≡ text_at name.now children.now }
+    ensures { result ≡ has_text name.now children.now }
 {
     match field(children, name) {
         Some(tree) => !tree.text.is_empty(),
@@ -53,7 +53,7 @@ fn has_text(children: &[Tree], name: &str) -> bool
 }
 
 fn has_dependency(children: &[Tree]) -> bool
-    ensures { not result ≡ is_childless (field_of (codes "dependencies") children.now) }
+    ensures { not result ≡ is_childless (field (codes "dependencies") children.now) }
 {
     match field(children, "dependencies") {
         Some(tree) => !tree.children.is_empty(),
@@ -62,7 +62,7 @@ fn has_dependency(children: &[Tree]) -> bool
 }
 
 fn are_all_known(children: &[Tree]) -> bool
-    ensures { result ≡ list_all known children.now }
+    ensures { result ≡ list_all is_known children.now }
 {
     for child in children {
         if !is_known(child) {

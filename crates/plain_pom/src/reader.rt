@@ -1,6 +1,6 @@
 //! The reader of plain trees.
 ghost use Rattle.std.specs.Prelude.{◌≡◌, List, ℕ, IfOk, IsErrOf};
-ghost use Rattle.plain_pom.specs.declared.tree.Tree.{Tree as TreeValue};
+ghost use Rattle.plain_pom.specs.declared.tree.Tree.{Tree};
 ghost use Rattle.plain_pom.specs.PlainTree.{IsPlainTree};
 
 use crate::run::take_run;
@@ -35,7 +35,7 @@ impl From<NoMemory> for PlainErr {
 /// element is deeper than 64.
 pub fn read_tree(alloc: Global, bytes: &[u8]) -> Result<Tree, PlainErr>
     ensures read { IfOk result (λ tree. IsPlainTree bytes.now tree) }
-    ensures refused { IsErrOf result PlainErr.NotPlain → (tree : TreeValue) → IsPlainTree bytes.now tree → ⊥ }
+    ensures refused { IsErrOf result PlainErr.NotPlain → (tree : Tree) → IsPlainTree bytes.now tree → ⊥ }
 {
     let mut state = State::BeforeRoot;
     let mut at = 0;
@@ -57,5 +57,5 @@ pub fn read_tree(alloc: Global, bytes: &[u8]) -> Result<Tree, PlainErr>
 
 /// No bytes are the text of two plain trees.
 pub fn one_tree()
-    ensures { (bytes : List ℕ) (one other : TreeValue) → IsPlainTree bytes one → IsPlainTree bytes other → one ≡ other }
+    ensures { (bytes : List ℕ) (one other : Tree) → IsPlainTree bytes one → IsPlainTree bytes other → one ≡ other }
 {}

@@ -1,8 +1,7 @@
-//! Runs of bytes that the reader takes at once: the letters of a name, an element's own
-//! characters, and the name of an end tag.
+//! Runs of bytes that the reader takes at once: names, own characters, and names of end tags.
 ghost use Rattle.std.specs.Prelude.{◌≡◌, ◌≤◌, ◌++◌, [], IfOk, length, take, drop, true, string_bytes};
 ghost use Rattle.std.specs.List.{list_all};
-ghost use Rattle.plain_pom.specs.PlainTree.{is_letter as letter_test, is_character as character_test};
+ghost use Rattle.plain_pom.specs.PlainTree.{is_letter, is_character};
 ghost use Rattle.plain_pom.specs.Machine.{in_start_tag, in_content, in_end_tag, IsRun};
 ghost use Rattle.plain_pom.specs.Views.{state_view, frame_view, frames_view};
 
@@ -20,7 +19,7 @@ pub struct Run {
 /// Puts the letters that the bytes begin with at the end of a name, and gives their number.
 fn push_letters(name: &mut String, bytes: &[u8]) -> Result<usize, NoMemory>
     ensures within { IfOk result (λ used. used ≤ length bytes.now) }
-    ensures letters { IfOk result (λ used. list_all letter_test (take used bytes.now) ≡ true) }
+    ensures letters { IfOk result (λ used. list_all is_letter (take used bytes.now) ≡ true) }
     ensures pushed { IfOk result (λ used. string_bytes name.new ≡ string_bytes name.old ++ take used bytes.now) }
 {
     for (i, byte) in bytes.iter().enumerate() {
@@ -35,7 +34,7 @@ fn push_letters(name: &mut String, bytes: &[u8]) -> Result<usize, NoMemory>
 /// The number of characters that the bytes begin with.
 fn count_characters(bytes: &[u8]) -> usize
     ensures within { result ≤ length bytes.now }
-    ensures characters { list_all character_test (take result bytes.now) ≡ true }
+    ensures characters { list_all is_character (take result bytes.now) ≡ true }
 {
     for (i, byte) in bytes.iter().enumerate() {
         if !is_character(*byte) {

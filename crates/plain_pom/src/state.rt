@@ -1,8 +1,8 @@
 //! The reader's states, and its step at each of them.
 ghost use Rattle.std.specs.Prelude.{◌≡◌, IfOk, option_map, take, drop, true, string_bytes};
 ghost use Rattle.std.specs.List.{list_all};
-ghost use Rattle.plain_pom.specs.PlainTree.{is_character as character_test};
-ghost use Rattle.plain_pom.specs.Machine.{step as step_of, after_bracket, in_start_tag, in_content, end_tag_step, outcome, closed, IsReady};
+ghost use Rattle.plain_pom.specs.PlainTree.{is_character};
+ghost use Rattle.plain_pom.specs.Machine.{step, after_bracket, in_start_tag, in_content, end_tag_step, outcome, closed, IsReady};
 ghost use Rattle.plain_pom.specs.Views.{state_view, frame_view, frames_view};
 
 use crate::bytes::{is_character, is_letter, is_white, push_byte, text_of};
@@ -40,7 +40,7 @@ fn after_a_bracket(
     mut outer: List<Open>,
     byte: u8,
 ) -> Result<Option<State>, NoMemory>
-    ensures { IfOk result (λ next. option_map state_view next ≡ step_of (after_bracket (frames_view outer)) byte) }
+    ensures { IfOk result (λ next. option_map state_view next ≡ step (after_bracket (frames_view outer)) byte) }
 {
     if is_letter(byte) && outer.len() < GREATEST_DEPTH {
         let mut name = String::new(alloc);
@@ -65,7 +65,7 @@ fn in_a_start_tag(
     outer: List<Open>,
     byte: u8,
 ) -> Result<Option<State>, NoMemory>
-    ensures { IfOk result (λ next. option_map state_view next ≡ step_of (in_start_tag (string_bytes name) (frames_view outer)) byte) }
+    ensures { IfOk result (λ next. option_map state_view next ≡ step (in_start_tag (string_bytes name) (frames_view outer)) byte) }
 {
     if is_letter(byte) {
         push_byte(&mut name, byte)?;
@@ -89,7 +89,7 @@ fn in_a_content(
     mut outer: List<Open>,
     byte: u8,
 ) -> Result<Option<State>, NoMemory>
-    ensures { IfOk result (λ next. option_map state_view next ≡ step_of (in_content (frame_view element) (frames_view outer)) byte) }
+    ensures { IfOk result (λ next. option_map state_view next ≡ step (in_content (frame_view element) (frames_view outer)) byte) }
 {
     if byte == b'<' {
         outer.push(element)?;
@@ -103,7 +103,7 @@ fn in_a_content(
 }
 
 fn close(alloc: Global, element: Open, mut outer: List<Open>) -> Result<State, NoMemory>
-    requires { list_all character_test element.own.items ≡ true }
+    requires { list_all is_character element.own.items ≡ true }
     ensures { IfOk result (λ next. state_view next ≡ closed (frame_view element) (frames_view outer)) }
 {
     let tree = Tree {
@@ -127,7 +127,7 @@ fn in_an_end_tag(
     outer: List<Open>,
     byte: u8,
 ) -> Result<Option<State>, NoMemory>
-    requires { list_all character_test element.own.items ≡ true }
+    requires { list_all is_character element.own.items ≡ true }
     ensures { IfOk result (λ next. option_map state_view next ≡ end_tag_step (take done element.name) (drop done element.name) (frame_view element) (frames_view outer) byte) }
 {
     match element.name.as_bytes().get(done) {
@@ -151,7 +151,7 @@ fn in_an_end_tag(
 /// The state behind one more byte, or none where no plain tree goes on so.
 pub fn step(alloc: Global, state: State, byte: u8) -> Result<Option<State>, NoMemory>
     requires { IsReady (state_view state) }
-    ensures { IfOk result (λ next. option_map state_view next ≡ step_of (state_view state) byte) }
+    ensures { IfOk result (λ next. option_map state_view next ≡ step (state_view state) byte) }
 {
     match state {
         State::BeforeRoot => {

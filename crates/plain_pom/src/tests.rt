@@ -1,3 +1,4 @@
+//! Which texts are plain trees and plain POMs without a dependency.
 use crate::{PlainErr, is_lone_pom, read_tree};
 use res_base::NoMemory;
 use std::alloc::Global;

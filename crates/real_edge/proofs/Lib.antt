@@ -1,1 +1,2 @@
+-- A file is read whole where no more is read than is allowed.
 mod Whole

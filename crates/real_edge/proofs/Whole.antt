@@ -11,8 +11,9 @@ take-short zero all h = absurd (omega arith)
 take-short (suc n) [] h = refl
 take-short (suc n) (x ∷ all) h = ap (λ rest. x ∷ rest) (take-short n all (omega (arith, h)))
 
-pub read_whole : (known : Option (List ℕ)) (limit count : ℕ) (bytes : List ℕ) → count ≡ min (limit + 1) (2 ^ 64 - 1) → length bytes < 2 ^ 63 → length bytes ≤ limit
-    → IfSome (option_map (take count) known) (λ taken. bytes ≡ taken) → IfSome known (λ left. Bytes bytes ≡ got_of (Some left) limit)
+pub read_whole : (known : Option (List ℕ)) (limit count : ℕ) (bytes : List ℕ) → count ≡ min (limit + 1) (2 ^ 64 - 1)
+    → length bytes < 2 ^ 63 → length bytes ≤ limit → IfSome (option_map (take count) known) (λ taken. bytes ≡ taken)
+    → IfSome known (λ left. Bytes bytes ≡ got_of (Some left) limit)
 read_whole None limit count bytes c s f k = tt
 read_whole (Some left) limit count bytes c s f k =
     let short : length (take count left) < count = omega (arith, c, s, f, ap length k) in

@@ -1,9 +1,13 @@
-//! Folders that `file:` addresses name.
-ghost use Rattle.std.specs.Prelude.{◌≡◌, ◌≢◌, ◌++◌, ◌<◌, ℕ, List, IfSome, IfNone, codes, length};
+//! Folders that `file:` addresses name, and the files in them.
+ghost use Rattle.std.specs.Prelude.{◌≡◌, ◌++◌, ◌↔◌, ◌⊎◌, IfOk, IfErr, IfSome, IfNone, IsTrue, codes};
+ghost use Rattle.std.specs.IoError.{error_kind};
+ghost use Rattle.real_edge.specs.SystemFiles.{IsNoFolder, SaysAbsent, IsFoundOfError, IsLook};
+ghost use Rattle.res_base.specs.Paths.{url_at};
 
-use res_base::{NoMemory, Text};
+use link_base::{Address, read_address};
+use res_base::{NoMemory, Text, url_of};
 use std::alloc::Global;
-use std::fs::Files;
+use std::fs::{Files, Metadata, OpenFile};
 use std::io;
 use std::io::ErrorKind;
 
@@ -15,48 +19,72 @@ pub(crate) enum Found<F> {
     Fault,
 }
 
-/// The folder of a `file:` address. Other addresses have none.
-fn folder(address: &str) -> Option<&str>
-    ensures some { IfSome result (λ folder. (address.now ≡ codes "file:" ++ folder.now) × (0 < length folder.now)) }
-    ensures none { IfNone result ((rest : List ℕ) → 0 < length rest → address.now ≢ codes "file:" ++ rest) }
+/// The name of the file with a path in the folder of an address: with `file:` before it, it is the
+/// URL. An address that names no folder has no such file.
+pub(crate) fn file_name(alloc: Global, address: &str, path: &str) -> Result<Option<Text>, NoMemory>
+    ensures name { IfOk result (λ found. IfSome found (λ name. codes "file:" ++ name ≡ url_at address.now path.now)) }
+    ensures none { IfOk result (λ found. IfNone found (IsNoFolder address.now)) }
 {
-    let folder = address.strip_prefix("file:")?;
-    if folder.is_empty() {
-        None
-    } else {
-        Some(folder)
+    match read_address(address) {
+        Some(Address::Folder(folder)) => Ok(Some(url_of(alloc, folder, path)?)),
+        Some(Address::Http(_)) => Ok(None),
+        None => Ok(None),
     }
 }
 
-/// The name of the file with a path in the folder of an address.
-pub(crate) fn file_name(
-    alloc: Global,
-    address: &str,
-    path: &str,
-) -> Result<Option<Text>, NoMemory> {
-    let Some(folder) = folder(address) else {
-        return Ok(None);
-    };
-    let name = format!(in alloc; "{folder}/{path}")?;
-    Ok(Some(Text::from_string(name)))
+/// Whether an error says that there is no such file: none of that name, a name that goes through
+/// a file, or one that is too long for the system.
+fn says_absent(error: &io::Error) -> bool
+    ensures { IsTrue result ↔ SaysAbsent (error_kind error.now) }
+{
+    let kind = error.kind();
+    kind == ErrorKind::NotFound
+        || kind == ErrorKind::NotADirectory
+        || kind == ErrorKind::InvalidFilename
 }
 
-/// Whether an error says that there is no such file, or no such folder before it.
-fn says_absent(error: &io::Error) -> bool {
-    error.kind() == ErrorKind::NotFound
+/// What is found where the system answered with an error.
+fn found_of_error<F>(error: &io::Error) -> Found<F>
+    ensures { IsFoundOfError error.now result }
+{
+    if says_absent(error) {
+        Found::Absent
+    } else {
+        Found::Fault
+    }
 }
 
-/// Opens the file with a name. What is no file, as a folder, is a fault, and so is a name that
-/// goes through what is no folder.
-pub(crate) fn find<R: Files>(runtime: &R, name: &str) -> Found<R::File> {
-    match runtime.metadata(name) {
-        Ok(metadata) if metadata.is_file() => match std::fs::open(runtime, name) {
-            Ok(file) => Found::File(file),
-            Err(error) if says_absent(&error) => Found::Absent,
-            Err(_) => Found::Fault,
-        },
+/// What is found where the system looked at a name. What is no file, as a folder, is a fault.
+fn look_at<F: Drop>(file: F, look: io::Result<Metadata>) -> Found<F>
+    ensures { IsLook file look result }
+{
+    match look {
+        Ok(metadata) if metadata.is_file() => Found::File(file),
         Ok(_) => Found::Fault,
-        Err(error) if says_absent(&error) => Found::Absent,
-        Err(_) => Found::Fault,
+        Err(error) => found_of_error(&error),
+    }
+}
+
+/// What is found where the system opened a file. It is looked at once more: what stood there may
+/// have become something else since the first look.
+fn opened<F: OpenFile + Drop>(outcome: io::Result<F>) -> Found<F>
+    ensures file { IfOk outcome (λ file. (result ≡ Found.File file) ⊎ (result ≡ Found.Fault)) }
+    ensures error { IfErr outcome (λ error. IsFoundOfError error result) }
+{
+    match outcome {
+        Ok(file) => match file.metadata() {
+            Ok(now) if now.is_file() => Found::File(file),
+            _ => Found::Fault,
+        },
+        Err(error) => found_of_error(&error),
+    }
+}
+
+/// Opens the file with a name. It is looked at first, since opening a pipe would wait.
+pub(crate) fn find<R: Files>(runtime: &R, name: &str) -> Found<R::File> {
+    match look_at((), runtime.metadata(name)) {
+        Found::File(()) => opened(std::fs::open(runtime, name)),
+        Found::Absent => Found::Absent,
+        Found::Fault => Found::Fault,
     }
 }

@@ -1,5 +1,4 @@
-//! The real outside: folders of files as links, the system's clock, and the standard streams as
-//! sinks. Nothing here tells what it holds, so each does as little as it can.
+//! The real outside: folders as links, the system's clock, and the standard streams as sinks.
 #![tactic(auto)]
 
 mod folders;

@@ -1,4 +1,7 @@
 //! The system's clock.
+ghost use Rattle.std.specs.Prelude.{◌≡◌, ◌/◌, None};
+ghost use Rattle.std.specs.Time.{system_time_nanos};
+
 use link_base::Clock;
 use std::time;
 use std::time::SystemTime;
@@ -11,8 +14,20 @@ pub struct RealClock<R> {
     last: Option<u64>,
 }
 
-impl<R: time::Clock> RealClock<R> {
-    pub fn new(runtime: R) -> RealClock<R> {
+/// The whole seconds from 1970 to a time.
+fn seconds_of(time: SystemTime) -> u64
+    ensures { result ≡ system_time_nanos time / 1_000_000_000 }
+{
+    match time.duration_since(SystemTime::UNIX_EPOCH) {
+        Ok(passed) => passed.as_secs(),
+        Err(_) => unreachable!(),
+    }
+}
+
+impl<R: time::Clock + Drop> RealClock<R> {
+    pub fn new(runtime: R) -> RealClock<R>
+        ensures { ⟦<RealClock<R> as Clock>⟧.last result ≡ None }
+    {
         RealClock {
             runtime,
             last: None,
@@ -25,10 +40,7 @@ impl<R: time::Clock + Drop> Clock for RealClock<R> {
 
     fn moment(&mut self) -> u64 {
         let moment = match SystemTime::now(&self.runtime) {
-            Ok(now) => match now.duration_since(SystemTime::UNIX_EPOCH) {
-                Ok(passed) => passed.as_secs(),
-                Err(_) => self.last.unwrap_or(0),
-            },
+            Ok(now) => seconds_of(now),
             Err(_) => self.last.unwrap_or(0),
         };
         self.last = Some(moment);

@@ -4,14 +4,11 @@ ghost use Rattle.std.specs.Option.{option_map};
 ghost use Rattle.res_base.specs.Causes.{counted};
 
 use crate::folders::{Found, file_name, find};
-use crate::pieces::{read_next, read_whole};
+use crate::pieces::{read_found, read_piece};
 use link_base::{Got, Link, LinkErr, Next, OpenFile, Opened};
 use res_base::{NoMemory, url_of};
 use std::alloc::Global;
 use std::fs::Files;
-
-/// The greatest number of bytes in a piece.
-const PIECE_BYTES: usize = 65536;
 
 /// A file that is given in pieces.
 #[derive(Drop)]
@@ -22,9 +19,9 @@ struct Reading<F> {
 }
 
 /// Gives the files of folders, which `file:` addresses name: `file:/srv/maven`, or `file:maven`
-/// below the folder that the program runs in. A file that isn't there is absent. A folder in its
-/// place, a name that goes through a file, and what the system refuses are faults. It has no way
-/// to other addresses, so these are faults too.
+/// below the folder that the program runs in. A file that isn't there is absent, and so is one
+/// whose name goes through a file or is too long for the system. A folder in its place and what
+/// the system refuses are faults. It has no way to other addresses, so these are faults too.
 #[derive(Drop)]
 pub struct RealLink<R: Files> {
     runtime: R,
@@ -33,9 +30,13 @@ pub struct RealLink<R: Files> {
     reading: Option<Reading<R::File>>,
 }
 
-impl<R: Files> RealLink<R> {
+impl<R: Files + Drop> RealLink<R> {
     /// A link that reads files through a runtime.
-    pub fn new(runtime: R) -> RealLink<R> {
+    pub fn new(runtime: R) -> RealLink<R>
+        ensures faults { ⟦<RealLink<R> as Link>⟧.faults result ≡ 0 }
+        ensures asked { ⟦<RealLink<R> as Link>⟧.asked result ≡ 0 }
+        ensures closed { ⟦<RealLink<R> as Link>⟧.open_file result ≡ None }
+    {
         RealLink {
             runtime,
             asked: 0,
@@ -82,14 +83,11 @@ impl<R: Files + Drop> Link for RealLink<R> {
     ) -> Result<Got, LinkErr> {
         self.asked = self.asked.saturating_add(1);
         self.reading = None;
-        match self.find(alloc, address, path)? {
-            Found::Absent => Ok(Got::Absent),
-            Found::Fault => Err(self.fail()),
-            Found::File(file) => match read_whole(alloc, file, limit) {
-                Ok(got) => Ok(got),
-                Err(LinkErr::Failed) => Err(self.fail()),
-                Err(LinkErr::NoMemory) => Err(LinkErr::NoMemory),
-            },
+        let found = self.find(alloc, address, path)?;
+        match read_found(alloc, found, limit) {
+            Ok(got) => Ok(got),
+            Err(LinkErr::Failed) => Err(self.fail()),
+            Err(LinkErr::NoMemory) => Err(LinkErr::NoMemory),
         }
     }
 
@@ -119,7 +117,6 @@ impl<R: Files + Drop> Link for RealLink<R> {
     }
 
     fn next_piece(&mut self, _alloc: Global, into: &mut Vec<u8>) -> Result<Next, LinkErr> {
-        into.clear();
         let Some(
             Reading {
                 mut file,
@@ -129,21 +126,16 @@ impl<R: Files + Drop> Link for RealLink<R> {
         else {
             unreachable!()
         };
-        let room = place.limit - place.given;
-        let count = room.max(1).min(PIECE_BYTES as u64) as usize;
-        match read_next(&mut file, count, into) {
-            Err(LinkErr::Failed) => Err(self.fail()),
-            Err(LinkErr::NoMemory) => Err(LinkErr::NoMemory),
-            Ok(()) if into.is_empty() => Ok(Next::End),
-            Ok(()) if room == 0 => {
-                into.clear();
-                Ok(Next::TooLarge)
-            }
-            Ok(()) => {
+        match read_piece(&mut file, place.limit - place.given, into) {
+            Ok(Next::Piece) => {
                 place.given += into.len() as u64;
                 self.reading = Some(Reading { file, place });
                 Ok(Next::Piece)
             }
+            Ok(Next::End) => Ok(Next::End),
+            Ok(Next::TooLarge) => Ok(Next::TooLarge),
+            Err(LinkErr::Failed) => Err(self.fail()),
+            Err(LinkErr::NoMemory) => Err(LinkErr::NoMemory),
         }
     }
 

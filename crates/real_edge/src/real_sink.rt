@@ -1,5 +1,5 @@
 //! The standard streams.
-ghost use Rattle.std.specs.Prelude.{None};
+ghost use Rattle.std.specs.Prelude.{◌≡◌, None};
 
 use link_base::{Sink, SinkErr};
 use std::alloc::Global;
@@ -19,14 +19,20 @@ pub struct RealSink {
 }
 
 impl RealSink {
-    pub fn out(stdout: Stdout) -> RealSink {
+    /// Standard output.
+    pub fn out(stdout: Stdout) -> RealSink
+        ensures { ⟦<RealSink as Sink>⟧.faults result ≡ 0 }
+    {
         RealSink {
             stream: Stream::Out(stdout),
             faults: 0,
         }
     }
 
-    pub fn err(stderr: Stderr) -> RealSink {
+    /// Standard error.
+    pub fn err(stderr: Stderr) -> RealSink
+        ensures { ⟦<RealSink as Sink>⟧.faults result ≡ 0 }
+    {
         RealSink {
             stream: Stream::Err(stderr),
             faults: 0,

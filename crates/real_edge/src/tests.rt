@@ -1,66 +1,98 @@
-//! One test for each part, over the system itself.
+//! What no clause says: what the system gives, absent and refused files among it.
 use crate::{RealClock, RealLink, RealSink};
 use link_base::{Clock, Got, Link, LinkErr, Sink, get_in_pieces};
 use std::alloc::Global;
 use std::fs;
 use std::test::Fail;
 
-/// What a link has at `f` below an address: the number of bytes, 0 of no file, and one more than
-/// the limit where there are too many.
+/// What a link has at `f` below an address: the number of bytes, nothing of no file, and one more
+/// than the limit where there are too many.
 fn size_at(
     alloc: Global,
     link: &mut RealLink<HostRuntime>,
     address: &str,
     limit: u32,
-) -> Result<u64, LinkErr> {
+) -> Result<Option<u64>, LinkErr> {
     match link.get(alloc, address, "f", u64::from(limit))? {
-        Got::Bytes(bytes) => Ok(bytes.len() as u64),
-        Got::Absent => Ok(0),
-        Got::TooLarge => Ok(u64::from(limit) + 1),
+        Got::Bytes(bytes) => Ok(Some(bytes.len() as u64)),
+        Got::Absent => Ok(None),
+        Got::TooLarge => Ok(Some(u64::from(limit) + 1)),
     }
+}
+
+/// The byte at a place of a file for tests. No two places less than 251 apart have the same.
+fn byte_at(place: usize) -> u8 {
+    (place % 251) as u8
+}
+
+/// Whether these are the first bytes of that file.
+fn begin_the_file(bytes: &[u8]) -> bool {
+    for place in 0..bytes.len() {
+        if bytes[place] != byte_at(place) {
+            return false;
+        }
+    }
+    true
 }
 
 #[test]
 fn a_folder_is_a_link(rt: HostRuntime) -> Result<(), Fail> {
     let alloc = rt.alloc();
     fs::create_dir_all(&rt, "repository/folder/f")?;
+    fs::create_dir_all(&rt, "repository/empty")?;
     fs::write(&rt, "repository/f", b"abc")?;
+    fs::write(&rt, "repository/empty/f", b"")?;
     let mut link = RealLink::new(rt);
-    assert_eq!(rt; size_at(alloc, &mut link, "file:repository", 3), Ok(3));
-    assert_eq!(rt; size_at(alloc, &mut link, "file:repository", 1), Ok(2));
-    assert_eq!(rt; size_at(alloc, &mut link, "file:elsewhere", 9), Ok(0));
     assert_eq!(rt;
-        size_at(alloc, &mut link, "file:repository/folder", 9),
-        Err(LinkErr::Failed)
+        size_at(alloc, &mut link, "file:repository", 3),
+        Ok(Some(3))
     );
     assert_eq!(rt;
-        size_at(alloc, &mut link, "file:repository/f", 9),
+        size_at(alloc, &mut link, "file:repository", 1),
+        Ok(Some(2))
+    );
+    assert_eq!(rt;
+        size_at(alloc, &mut link, "file:repository/empty", 9),
+        Ok(Some(0))
+    );
+    assert_eq!(rt; size_at(alloc, &mut link, "file:elsewhere", 9), Ok(None));
+    assert_eq!(rt; size_at(alloc, &mut link, "file:repository/f", 9), Ok(None));
+    assert_eq!(rt;
+        size_at(alloc, &mut link, "file:repository/folder", 9),
         Err(LinkErr::Failed)
     );
     assert_eq!(rt;
         size_at(alloc, &mut link, "http://r1", 9),
         Err(LinkErr::Failed)
     );
+    fs::remove_dir_all(&rt, "repository")?;
     Ok(())
 }
 
 #[test]
 fn a_file_comes_in_pieces(rt: HostRuntime) -> Result<(), Fail> {
     let alloc = rt.alloc();
-    let bytes = [7u8; 70_000];
-    fs::write(&rt, "f", bytes.as_slice())?;
+    let mut bytes = Vec::new(alloc);
+    for place in 0..70_000 {
+        bytes.push(byte_at(place))?;
+    }
+    fs::create_dir_all(&rt, "pieces")?;
+    fs::write(&rt, "pieces/f", bytes.as_slice())?;
     let mut link = RealLink::new(rt);
-    let whole = get_in_pieces(alloc, &mut link, "file:.", "f", 70_000)?;
-    assert!(rt; matches!(&whole, Got::Bytes(bytes) if bytes.len() == 70_000));
-    let cut = get_in_pieces(alloc, &mut link, "file:.", "f", 69_999)?;
+    let whole = get_in_pieces(alloc, &mut link, "file:pieces", "f", 70_000)?;
+    assert!(rt;
+        matches!(&whole, Got::Bytes(got) if got.len() == 70_000 && begin_the_file(got.as_slice()))
+    );
+    let cut = get_in_pieces(alloc, &mut link, "file:pieces", "f", 69_999)?;
     assert!(rt; matches!(&cut, Got::TooLarge));
+    fs::remove_dir_all(&rt, "pieces")?;
     Ok(())
 }
 
 #[test]
-fn the_clock_is_past_2020(rt: HostRuntime) {
-    let mut clock = RealClock::new(rt);
-    assert!(rt; clock.moment() > 1_577_836_800);
+fn the_clock_gives_seconds_of_this_century(rt: HostRuntime) {
+    let moment = RealClock::new(rt).moment();
+    assert!(rt; 1_577_836_800 < moment && moment < 4_102_444_800);
 }
 
 #[test]

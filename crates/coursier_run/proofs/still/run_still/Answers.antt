@@ -1,6 +1,6 @@
 use Rattle.std.proofs.Common.{◌<◌, length, refl, arith}
 use Rattle.link_base.proofs.Kept.{kept_refl}
-use Rattle.coursier_run.proofs.FirstLink.{rose_first, together, all_first, zip_first, drop-set_first, set_first_same, justified_wider, ends_wider}
+use Rattle.coursier_run.proofs.FirstLink.{failed_first, together, all_first, zip_first, drop-set_first, set_first_same, justified_wider, ends_wider}
 use Rattle.coursier_run.proofs.Promised.{has_status, prints_root, refuses_words, blames_link, leaves, stream_rose, answers_refusal, is_complete}
 use Rattle.coursier_run.proofs.still.run_still.Goals as goal
 
@@ -12,7 +12,8 @@ returns-clause-ends g c =
     ends_wider _ _ _ _ _ _ _
     (λ said justified. justified_wider _ _ _ _ _ said
     (λ w all. all_first (λ l. g.L.Link.agrees l w) links first some c.index_mut.ensures.value all)
-    (λ rose. rose_first g.L.Link.faults links first c.run_words_over-status.new.link some c.index_mut.ensures.value rose)
+    (λ url failed.
+    failed_first g.L.Link.faults g.L.Link.failed_urls links first c.run_words_over-status.new.link url some c.index_mut.ensures.value failed)
     justified)
     (λ rose. rose)
     c.run_words_over-status.ensures.ends
@@ -45,7 +46,7 @@ returns-clause-untouched g c = λ kind place bad.
     (set_first_same _ c.index_mut.result.now _ some c.index_mut.ensures.value same.0, same.1, refl)
 
 pub returns-clause-complete : goal.returns-clause-complete
-returns-clause-complete g c = λ links_calm out_calm err_calm. is_complete _ _ _ _ _ _ _ (λ first. links_calm (together g.L.Link.faults c.args.links.now.items c.run_words_over-status.new.link first)) out_calm err_calm (returns-clause-ends g c)
+returns-clause-complete g c = λ links_calm out_calm err_calm. is_complete _ _ _ _ _ _ _ (λ url first. links_calm (together g.L.Link.faults g.L.Link.failed_urls c.args.links.now.items c.run_words_over-status.new.link url first)) out_calm err_calm (returns-clause-ends g c)
 
 pub returns-clause-kept : goal.returns-clause-kept
 returns-clause-kept g c =

@@ -1,15 +1,16 @@
 -- The pieces so far are the first bytes of the file, and the link kept what every call keeps.
 use Rattle.std.proofs.Common.{◌≡◌, ◌-◌, ◌≤◌, Some, length}
+use Rattle.res_base.specs.Paths.{url_at}
 use Rattle.res_base.specs.World.{at}
 use Rattle.res_base.specs.Causes.{counted}
-use Rattle.link_base.specs.Links.{Rows, url_of, LinkKept}
+use Rattle.link_base.specs.Links.{Rows, LinkKept}
 use Rattle.link_base.specs.Pieces.{BeginsFile}
 use Rattle.link_base.proofs.pieces.get_in_pieces.Given as goal
 
 abbrev pub invariant-pieces : goal.invariant-pieces
 invariant-pieces g l =
     let link = g.L.Link in
-    let url = url_of l.address l.path in
+    let url = url_at l.address l.path in
     record {
       opened : link.open_file l.link ≡ Some (record { url = url; limit = l.limit; given = length l.bytes.items });
       within : length l.bytes.items ≤ l.limit;

@@ -8,4 +8,6 @@ returns-in-Ok-clause-answer g c =
     let small : length bytes.items < 2 ^ 63 = omega (arith, bytes.ok.0, bytes.ok.1, bytes.small) in
     let fits : length bytes.items ≤ c.args.limit = omega (arith, bytes.ok.0, c.len.ensures, c.if-len-limit.true) in
     let taken = rw (c.take.ensures.limit, c.take.ensures.inner, c.new-bytes.ensures.items) at c.in-Ok.ensures.bytes in
-    rw c.from_vec.ensures (read_whole (g.F.Read.remaining c.args.file) c.args.limit c.saturating_add.result bytes.items c.saturating_add.ensures small fits taken)
+    let count = c.saturating_add in
+    rw c.from_vec.ensures
+    (read_whole (g.F.Read.remaining c.args.file) c.args.limit count.result bytes.items count.ensures small fits taken)
