@@ -1,0 +1,2 @@
+-- One step of each loop.
+mod Steps

@@ -1,0 +1,4 @@
+pub mod Draws
+pub mod Projects
+pub mod World
+pub mod Rows
