@@ -1,3 +1,4 @@
+-- The reader is right for the grammar, group of states by group, and its answer is the only one.
 pub mod Bytes
 pub mod Keeps
 pub mod Takes
@@ -9,3 +10,4 @@ pub mod HeadLives
 pub mod Utf8
 pub mod Unknown
 pub mod OneAnswer
+pub mod CallerLemmas

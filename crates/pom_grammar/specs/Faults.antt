@@ -1,5 +1,6 @@
 -- The faults of a text that is no document, and what an answer says of a text.
 use Rattle.std.specs.Prelude.{◌≡◌, ℕ, suc, ◌+◌, Bool, true, not, List, [], ◌∷◌, ◌++◌, length, None, Result, Ok, Err, ◌==◌, codes}
+use Rattle.std.specs.List.{list_all}
 use Rattle.fault_place.specs.Place.{IsPlace}
 use Rattle.fault_place.specs.Reader.{Accepts}
 use Rattle.pom_grammar.specs.declared.encoding.Encoding.{Encoding}
@@ -7,9 +8,9 @@ use Rattle.pom_grammar.specs.declared.encoding.Tail.TheVariants.{Whole}
 use Rattle.pom_grammar.specs.declared.tree.Tree.{Tree}
 use Rattle.pom_grammar.specs.declared.tree.TextErr.{TextErr}
 use Rattle.pom_grammar.specs.declared.tree.TextErr.TheVariants.{BadText, Doctype, TooDeep, UnknownEncoding, NoMemory}
-use Rattle.pom_grammar.specs.Characters.{is_name_start, every}
+use Rattle.pom_grammar.specs.Characters.{is_name_start}
 use Rattle.pom_grammar.specs.Encodings.{next_tail}
-use Rattle.pom_grammar.specs.Document.{Quote, quote_byte, IsTagFront, Content, top, inner, chars}
+use Rattle.pom_grammar.specs.Document.{Quote, quote_byte, IsTagPrefix, Content, top, inner, chars}
 use Rattle.pom_grammar.specs.Declarations.{naming, found_in, known, IsDeclared}
 use Rattle.pom_grammar.specs.Heads.{IsMark, IsHead, IsDocument, is_alive}
 
@@ -25,12 +26,12 @@ pub record IsUnknown (bytes : List ℕ) (place : ℕ) : Type 0 where
   pub before : List ℕ
   pub quote : Quote
   pub name : List ℕ
-  pub behind : List ℕ
+  pub after : List ℕ
   pub is_mark : IsMark mark
   pub is_declared : IsDeclared text head
   pub opens : found_in before ≡ naming quote []
-  pub is_name : every (in_quotes quote) name ≡ true
-  pub split : text ≡ before ++ (name ++ quote_byte quote ∷ behind)
+  pub is_name : list_all (in_quotes quote) name ≡ true
+  pub split : text ≡ before ++ (name ++ quote_byte quote ∷ after)
   pub is_unknown : known name ≡ None
   pub whole : bytes ≡ mark ++ (head ++ rest)
   pub is_place : place ≡ length mark + (6 + length before)
@@ -51,8 +52,9 @@ pub record IsDoctype (bytes : List ℕ) (place : ℕ) : Type 0 where
 -- bytes that end in the content of so many open elements
 pub data Opens (e : Encoding) : ℕ → List ℕ → Type 0 where
   before_root : (bytes : List ℕ) → Content e top 64 chars bytes [] [] → Opens e 0 bytes
-  inside : (n room : ℕ) (before name tag bytes text : List ℕ) (children : List Tree) → Opens e n before → IsTagFront e name tag → suc n + room ≡ 64 → Content e inner room chars bytes text children
-      → Opens e (suc n) (before ++ (tag ++ 62 ∷ bytes))
+  inside : (n room : ℕ) (before name tag bytes text : List ℕ) (children : List Tree) → Opens e n before
+      → IsTagPrefix e name tag → suc n + room ≡ 64 → Content e inner room chars bytes text children
+      → Opens e (suc n) (before ++ (tag ++ (codes ">" ++ bytes)))
 
 -- the name of a start tag begins in 64 open elements; the place is that of its bracket
 pub record IsTooDeep (bytes : List ℕ) (place : ℕ) : Type 0 where
@@ -63,11 +65,11 @@ pub record IsTooDeep (bytes : List ℕ) (place : ℕ) : Type 0 where
   pub letter : ℕ
   pub rest : List ℕ
   pub is_mark : IsMark mark
-  pub is_head : IsHead encoding head (before ++ 60 ∷ (letter ∷ rest))
+  pub is_head : IsHead encoding head (before ++ (codes "<" ++ letter ∷ rest))
   pub opens : Opens encoding 64 before
   pub is_start : is_name_start letter ≡ true
   pub is_byte : is_alive (next_tail encoding Whole letter) ≡ true
-  pub whole : bytes ≡ mark ++ (head ++ (before ++ 60 ∷ (letter ∷ rest)))
+  pub whole : bytes ≡ mark ++ (head ++ (before ++ (codes "<" ++ letter ∷ rest)))
   pub is_place : place ≡ length (mark ++ (head ++ before))
 
 -- none of those faults

@@ -1,13 +1,15 @@
 -- Documents, with the byte-order mark and the declaration; and their reader.
-use Rattle.std.specs.Prelude.{◌≡◌, ℕ, Bool, true, false, cond, ◌||◌, List, [], ◌∷◌, ◌++◌, Option, Some, None, ◌==◌, codes}
+use Rattle.std.specs.Prelude.{◌≡◌, ℕ, Bool, true, false, if◌then◌else◌, ◌||◌, List, [], ◌∷◌, ◌++◌, Option, Some, None, ◌==◌, codes}
+use Rattle.ascii_bytes.specs.Signs.{less_than, question_mark}
+use Rattle.ascii_bytes.specs.Classes.{is_white}
 use Rattle.fault_place.specs.Reader.{Reader}
 use Rattle.pom_grammar.specs.declared.encoding.Encoding.{Encoding}
 use Rattle.pom_grammar.specs.declared.encoding.Encoding.TheVariants.{Utf8, Ascii, Latin1}
 use Rattle.pom_grammar.specs.declared.encoding.Tail.{Tail}
-use Rattle.pom_grammar.specs.declared.encoding.Tail.TheVariants.{Whole, One, Two, Three, BehindE0, BehindEd, BehindF0, BehindF4}
+use Rattle.pom_grammar.specs.declared.encoding.Tail.TheVariants.{Whole, One, Two, Three, AfterE0, AfterEd, AfterF0, AfterF4}
 use Rattle.pom_grammar.specs.declared.encoding.Seek.TheVariants.{Nothing}
 use Rattle.pom_grammar.specs.declared.tree.Tree.{Tree}
-use Rattle.pom_grammar.specs.Characters.{is_space, begins_with, forward}
+use Rattle.pom_grammar.specs.Characters.{begins_with, forward}
 use Rattle.pom_grammar.specs.Encodings.{goes_on, tails, next_tail}
 use Rattle.pom_grammar.specs.Document.{IsBody, question, ends_from, backward}
 use Rattle.pom_grammar.specs.Declarations.{Found, seeking, naming, named, next_found, found_in, lowered, known, encoding_of, IsDeclaration, declares}
@@ -36,13 +38,13 @@ pub record IsDocument (bytes : List ℕ) (tree : Tree) : Type 0 where
 pub data Start : Type 0 where
   at_start : Start
   bracket : Start
-  behind_question : Start
-  behind_x : Start
-  behind_m : Start
-  behind_l : Start
+  after_question : Start
+  after_x : Start
+  after_m : Start
+  after_l : Start
 
--- What a front of the declaration's text tells: what was found in it, and what UTF-8 and ASCII
--- lack behind it, unless it is no such text.
+-- What a prefix of the declaration's text tells: what was found in it, and what UTF-8 and ASCII
+-- lack after it, unless it is no such text.
 pub record Telling : Type 0 where
   pub found : Found
   pub utf8 : Option Tail
@@ -67,10 +69,10 @@ is_finished (Some Whole) = true
 is_finished (Some One) = false
 is_finished (Some Two) = false
 is_finished (Some Three) = false
-is_finished (Some BehindE0) = false
-is_finished (Some BehindEd) = false
-is_finished (Some BehindF0) = false
-is_finished (Some BehindF4) = false
+is_finished (Some AfterE0) = false
+is_finished (Some AfterEd) = false
+is_finished (Some AfterF0) = false
+is_finished (Some AfterF4) = false
 
 abbrev pub told : Encoding → Telling → Option Tail
 told Utf8 telling = telling.utf8
@@ -107,60 +109,61 @@ may_go_on telling = goes_on_from telling.found telling
 
 abbrev pub body_in : Option Encoding → Telling → Option Reading
 body_in None telling = None
-body_in (Some e) telling = cond (is_finished (told e telling)) (Some (in_body e (between None))) None
+body_in (Some e) telling = if is_finished (told e telling) then Some (in_body e (between None)) else None
 
 abbrev pub declaration_step : ℕ → List ℕ → Telling → ℕ → Option Reading
 declaration_step space seen telling c =
-    cond (begins_with (backward question) (c ∷ seen)) (body_in (encoding_of telling.found) telling)
-    (cond (may_go_on (next_telling telling c)) (Some (in_declaration space (c ∷ seen) (next_telling telling c))) None)
+    if begins_with (backward question) (c ∷ seen) then body_in (encoding_of telling.found) telling else
+    if may_go_on (next_telling telling c) then Some (in_declaration space (c ∷ seen) (next_telling telling c)) else None
 
 abbrev pub expected : Start → ℕ → Bool
-expected at_start c = c == 60
-expected bracket c = c == 63
-expected behind_question c = c == 120
-expected behind_x c = c == 109
-expected behind_m c = c == 108
-expected behind_l c = is_space c
+expected at_start c = c == less_than
+expected bracket c = c == question_mark
+expected after_question c = c == 120
+expected after_x c = c == 109
+expected after_m c = c == 108
+expected after_l c = is_white c
 
-abbrev pub after : Start → ℕ → Reading
-after at_start c = starting bracket
-after bracket c = starting behind_question
-after behind_question c = starting behind_x
-after behind_x c = starting behind_m
-after behind_m c = starting behind_l
-after behind_l c = in_declaration c [] nothing_told
+abbrev pub next_start : Start → ℕ → Reading
+next_start at_start c = starting bracket
+next_start bracket c = starting after_question
+next_start after_question c = starting after_x
+next_start after_x c = starting after_m
+next_start after_m c = starting after_l
+next_start after_l c = in_declaration c [] nothing_told
 
 abbrev pub so_far : Start → List ℕ
 so_far at_start = []
 so_far bracket = codes "<"
-so_far behind_question = codes "<?"
-so_far behind_x = codes "<?x"
-so_far behind_m = codes "<?xm"
-so_far behind_l = codes "<?xml"
+so_far after_question = codes "<?"
+so_far after_x = codes "<?x"
+so_far after_m = codes "<?xm"
+so_far after_l = codes "<?xml"
 
 -- what the reader of bodies would be in
-abbrev pub in_marks_behind : List ℕ → State
-in_marks_behind seen = in_segment (in_marks question) (outside None) seen Whole
+abbrev pub in_marks_after : List ℕ → State
+in_marks_after seen = in_segment (in_marks question) (outside None) seen Whole
 
 abbrev pub as_body : Start → State
 as_body at_start = between None
 as_body bracket = opened (outside None)
-as_body behind_question = in_marks_behind []
-as_body behind_x = in_marks_behind (120 ∷ [])
-as_body behind_m = in_marks_behind (109 ∷ (120 ∷ []))
-as_body behind_l = in_marks_behind (108 ∷ (109 ∷ (120 ∷ [])))
+as_body after_question = in_marks_after []
+as_body after_x = in_marks_after (codes "x")
+as_body after_m = in_marks_after (codes "mx")
+as_body after_l = in_marks_after (codes "lmx")
 
 abbrev pub body_reading : Encoding → Option State → Option Reading
 body_reading e None = None
 body_reading e (Some s) = Some (in_body e s)
 
 abbrev pub start_step : Start → ℕ → Option Reading
-start_step start c = cond (expected start c) (Some (after start c)) (body_reading Utf8 (step Utf8 (as_body start) c))
+start_step start c =
+    if expected start c then Some (next_start start c) else body_reading Utf8 (step Utf8 (as_body start) c)
 
 abbrev pub read_step : Reading → ℕ → Option Reading
-read_step begin c = cond (c == 239) (Some mark_one) (start_step at_start c)
-read_step mark_one c = cond (c == 187) (Some mark_two) None
-read_step mark_two c = cond (c == 191) (Some (starting at_start)) None
+read_step begin c = if c == 239 then Some mark_one else start_step at_start c
+read_step mark_one c = if c == 187 then Some mark_two else None
+read_step mark_two c = if c == 191 then Some (starting at_start) else None
 read_step (starting start) c = start_step start c
 read_step (in_declaration space seen telling) c = declaration_step space seen telling c
 read_step (in_body e s) c = body_reading e (step e s c)
@@ -173,44 +176,44 @@ read_outcome (starting start) = None
 read_outcome (in_declaration space seen telling) = None
 read_outcome (in_body e s) = outcome s
 
--- What is known of a front.
+-- What is known of a prefix.
 
-pub record FitsStart (start : Start) (front : List ℕ) : Type 0 where
+pub record FitsStart (start : Start) (prefix : List ℕ) : Type 0 where
   pub mark : List ℕ
   pub is_mark : IsMark mark
-  pub whole : front ≡ mark ++ so_far start
+  pub whole : prefix ≡ mark ++ so_far start
 
-pub record FitsDeclaration (space : ℕ) (seen : List ℕ) (telling : Telling) (front : List ℕ) : Type 0 where
+pub record FitsDeclaration (space : ℕ) (seen : List ℕ) (telling : Telling) (prefix : List ℕ) : Type 0 where
   pub mark : List ℕ
   pub is_mark : IsMark mark
-  pub is_space : is_space space ≡ true
+  pub is_space : is_white space ≡ true
   pub is_open : (text : List ℕ) → ends_from question [] (forward seen ++ text) ≡ ends_from question seen text
   pub found : telling.found ≡ found_in (forward seen)
   pub utf8 : telling.utf8 ≡ tails Utf8 Whole (forward seen)
   pub ascii : telling.ascii ≡ tails Ascii Whole (forward seen)
   pub alive : may_go_on telling ≡ true
-  pub whole : front ≡ mark ++ (codes "<?xml" ++ space ∷ forward seen)
+  pub whole : prefix ≡ mark ++ (codes "<?xml" ++ space ∷ forward seen)
 
 pub data FitsHead : Encoding → List ℕ → List ℕ → Type 0 where
   never : (bytes : List ℕ) → ((rest : List ℕ) → declares (bytes ++ rest) ≡ false) → FitsHead Utf8 [] bytes
   before : (e : Encoding) (head bytes : List ℕ) → IsDeclaration e head → FitsHead e head bytes
 
-pub record FitsBody (e : Encoding) (s : State) (front : List ℕ) : Type 0 where
+pub record FitsBody (e : Encoding) (s : State) (prefix : List ℕ) : Type 0 where
   pub mark : List ℕ
   pub head : List ℕ
   pub bytes : List ℕ
   pub is_mark : IsMark mark
   pub is_head : FitsHead e head bytes
   pub fits : Fits e s bytes
-  pub whole : front ≡ mark ++ (head ++ bytes)
+  pub whole : prefix ≡ mark ++ (head ++ bytes)
 
 abbrev pub FitsReading : Reading → List ℕ → Type 0
-FitsReading begin front = front ≡ []
-FitsReading mark_one front = front ≡ 239 ∷ []
-FitsReading mark_two front = front ≡ 239 ∷ (187 ∷ [])
-FitsReading (starting start) front = FitsStart start front
-FitsReading (in_declaration space seen telling) front = FitsDeclaration space seen telling front
-FitsReading (in_body e s) front = FitsBody e s front
+FitsReading begin prefix = prefix ≡ []
+FitsReading mark_one prefix = prefix ≡ 239 ∷ []
+FitsReading mark_two prefix = prefix ≡ 239 ∷ (187 ∷ [])
+FitsReading (starting start) prefix = FitsStart start prefix
+FitsReading (in_declaration space seen telling) prefix = FitsDeclaration space seen telling prefix
+FitsReading (in_body e s) prefix = FitsBody e s prefix
 
 abbrev pub reading_with : (V : Type 0) → (Reading → Option V) → Reader Reading V
 reading_with V out = record { start = begin; step = read_step; outcome = out; Fits = FitsReading }

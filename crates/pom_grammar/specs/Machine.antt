@@ -1,33 +1,36 @@
--- A reader of documents, byte by byte, behind the byte-order mark and the declaration.
-use Rattle.std.specs.Prelude.{◌≡◌, ℕ, suc, ◌+◌, Bool, true, false, cond, not, List, [], ◌∷◌, ◌++◌, drop, Option, Some, None, ◌==◌, codes}
+-- A reader of documents, byte by byte, after the byte-order mark and the declaration.
+use Rattle.std.specs.Prelude.{◌≡◌, ℕ, suc, ◌+◌, Bool, true, false, if◌then◌else◌, not, List, [], ◌∷◌, ◌++◌, drop, Option, Some, None, ◌==◌, codes}
+use Rattle.std.specs.List.{list_all}
+use Rattle.ascii_bytes.specs.Signs.{question_mark, less_than, slash, greater_than, equals_sign, quotation_mark, apostrophe, exclamation_mark, dash, opening_bracket}
+use Rattle.ascii_bytes.specs.Classes.{is_white}
 use Rattle.fault_place.specs.Reader.{Reader}
 use Rattle.pom_grammar.specs.declared.encoding.Encoding.{Encoding}
 use Rattle.pom_grammar.specs.declared.encoding.Tail.{Tail}
-use Rattle.pom_grammar.specs.declared.encoding.Tail.TheVariants.{Whole, One, Two, Three, BehindE0, BehindEd, BehindF0, BehindF4}
+use Rattle.pom_grammar.specs.declared.encoding.Tail.TheVariants.{Whole, One, Two, Three, AfterE0, AfterEd, AfterF0, AfterF4}
 use Rattle.pom_grammar.specs.declared.tree.Tree.{Tree, roll-Tree}
-use Rattle.pom_grammar.specs.Characters.{is_space, is_name_start, is_name_byte, every, has_some, begins_with, is_name, local, skip_space, cut_space, forward}
+use Rattle.pom_grammar.specs.Characters.{is_name_start, is_name_byte, has_some, begins_with, is_name, local, skip_space, cut_space, forward}
 use Rattle.pom_grammar.specs.Encodings.{utf8_of, next_tail, tails}
 use Rattle.pom_grammar.specs.References.{expanded}
-use Rattle.pom_grammar.specs.Document.{IsName, IsAssigned, Quote, single, double, quote_byte, in_value, Attributes, IsTagFront, Mark, dashes, question, brackets, backward, ends_from, opening, Level, top, inner, Edge, markup, chars, is_plain, Content}
+use Rattle.pom_grammar.specs.Document.{IsName, IsAssigned, Quote, single, double, quote_byte, in_value, Attributes, IsTagPrefix, Mark, dashes, question, brackets, backward, ends_from, opening, Level, top, inner, Edge, markup, chars, is_plain, Content}
 
 -- an open element: its name as it stands, its local name in UTF-8, its own text so far without white
 -- space at the start, and its elements
-pub record Frame : Type 0 where
+pub record OpenElement : Type 0 where
   pub name : List ℕ
   pub label : List ℕ
   pub text : List ℕ
   pub children : List Tree
 
 -- what is open: nothing, with the root where it was read; or an element, and what it is in
-pub data Place : Type 0 where
-  outside : Option Tree → Place
-  within : Frame → Place → Place
+pub data OpenElements : Type 0 where
+  outside : Option Tree → OpenElements
+  within : OpenElement → OpenElements → OpenElements
 
-abbrev pub depth : Place → ℕ
+abbrev pub depth : OpenElements → ℕ
 depth (outside root) = 0
 depth (within frame outer) = suc (depth outer)
 
-abbrev pub level : Place → Level
+abbrev pub level : OpenElements → Level
 level (outside root) = top
 level (within frame outer) = inner
 
@@ -35,16 +38,12 @@ abbrev pub root_list : Option Tree → List Tree
 root_list None = []
 root_list (Some tree) = tree ∷ []
 
-abbrev pub children_of : Place → List Tree
-children_of (outside root) = root_list root
-children_of (within frame outer) = frame.children
-
 -- whether one more element may open: one root, and 64 levels
 abbrev pub has_none : Option Tree → Bool
 has_none None = true
 has_none (Some tree) = false
 
-abbrev pub may_open : Place → Bool
+abbrev pub may_open : OpenElements → Bool
 may_open (outside root) = has_none root
 may_open (within frame outer) = not (depth outer == 63)
 
@@ -53,17 +52,25 @@ abbrev pub join : List ℕ → List ℕ → List ℕ
 join [] more = skip_space more
 join (c ∷ text) more = c ∷ (text ++ more)
 
-abbrev pub with_text : Frame → List ℕ → Frame
-with_text frame more = record { name = frame.name; label = frame.label; text = join frame.text more; children = frame.children }
+abbrev pub with_text : OpenElement → List ℕ → OpenElement
+with_text frame more =
+    record { name = frame.name; label = frame.label; text = join frame.text more; children = frame.children }
 
-abbrev pub with_child : Place → Tree → Place
+abbrev pub with_child : OpenElements → Tree → OpenElements
 with_child (outside root) tree = outside (Some tree)
-with_child (within frame outer) tree = within (record { name = frame.name; label = frame.label; text = frame.text; children = frame.children ++ tree ∷ [] }) outer
+with_child (within frame outer) tree =
+    within (record {
+      name = frame.name;
+      label = frame.label;
+      text = frame.text;
+      children =
+          frame.children ++ tree ∷ [];
+    }) outer
 
-abbrev pub fresh : Encoding → List ℕ → Frame
+abbrev pub fresh : Encoding → List ℕ → OpenElement
 fresh e name = record { name = name; label = utf8_of e (local name); text = []; children = [] }
 
-abbrev pub tree_of : Frame → Tree
+abbrev pub tree_of : OpenElement → Tree
 tree_of frame = roll-Tree (record { name = frame.label; text = cut_space frame.text; children = frame.children })
 
 -- what a run of bytes is, and where it stands
@@ -75,150 +82,170 @@ pub data Kind : Type 0 where
   in_quotes : Quote → List ℕ → Kind
   in_marks : Mark → Kind
 
--- a place in a start tag: behind white space, behind an attribute's name, behind `=`, behind the
--- value, behind the slash
+-- a place in a start tag: after white space, after an attribute's name, after `=`, after the
+-- value, after the slash
 pub data Spot : Type 0 where
   spaced : Spot
   equals : Spot
   value : Spot
   closed : Spot
-  slash : Spot
+  after_slash : Spot
 
 pub data State : Type 0 where
   -- outside every element, with the root where it was read
   between : Option Tree → State
-  -- behind a bracket, behind `<!`, behind `<!-`
-  opened : Place → State
-  bang : Place → State
-  dash : Place → State
+  -- after a bracket, after `<!`, after `<!-`
+  opened : OpenElements → State
+  bang : OpenElements → State
+  after_dash : OpenElements → State
   -- what is left of `[CDATA[`
-  in_cdata : List ℕ → Frame → Place → State
+  in_cdata : List ℕ → OpenElement → OpenElements → State
   -- the bytes of a run so far, the last first, and what its last character lacks
-  in_segment : Kind → Place → List ℕ → Tail → State
-  in_tag : Spot → List ℕ → Place → State
-  -- in an end tag: what of the name was read, and what is left of it; behind the name
-  in_end : List ℕ → List ℕ → Frame → Place → State
-  behind_name : Frame → Place → State
+  in_segment : Kind → OpenElements → List ℕ → Tail → State
+  in_tag : Spot → List ℕ → OpenElements → State
+  -- in an end tag: what of the name was read, and what is left of it; after the name
+  in_end : List ℕ → List ℕ → OpenElement → OpenElements → State
+  after_name : OpenElement → OpenElements → State
 
--- behind markup
-abbrev pub back : Place → State
+-- after markup
+abbrev pub back : OpenElements → State
 back (outside root) = between root
 back (within frame outer) = in_segment in_run (within frame outer) [] Whole
 
 abbrev pub stops : Kind → List ℕ → ℕ → Bool
-stops in_run seen c = c == 60
+stops in_run seen c = c == less_than
 stops in_name seen c = not (is_name_byte c)
 stops (in_label name) seen c = not (is_name_byte c)
 stops (in_quotes quote name) seen c = not (in_value quote c)
 stops (in_marks mark) seen c = begins_with (backward mark) (c ∷ seen)
 
--- behind a name or a value in a start tag
-abbrev pub tag_step : Encoding → List ℕ → Place → ℕ → Option State
+-- after a name or a value in a start tag
+abbrev pub tag_step : Encoding → List ℕ → OpenElements → ℕ → Option State
 tag_step e name place c =
-    cond (is_space c) (Some (in_tag spaced name place))
-    (cond (c == 47) (Some (in_tag slash name place)) (cond (c == 62) (Some (back (within (fresh e name) place))) None))
+    if is_white c then Some (in_tag spaced name place) else
+    if c == slash then Some (in_tag after_slash name place) else if c == greater_than
+    then Some (back (within (fresh e name) place))
+    else None
 
-abbrev pub equals_step : List ℕ → Place → ℕ → Option State
-equals_step name place c = cond (is_space c) (Some (in_tag equals name place)) (cond (c == 61) (Some (in_tag value name place)) None)
+abbrev pub equals_step : List ℕ → OpenElements → ℕ → Option State
+equals_step name place c =
+    if is_white c then Some (in_tag equals name place) else if c == equals_sign then Some (in_tag value name place)
+    else None
 
-abbrev pub on_frame : Place → (Frame → Place → Option State) → Option State
+abbrev pub on_frame : OpenElements → (OpenElement → OpenElements → Option State) → Option State
 on_frame (outside root) f = None
 on_frame (within frame outer) f = f frame outer
 
 -- an element's text goes on
-abbrev pub marked : Encoding → Mark → Place → List ℕ → Option State
+abbrev pub marked : Encoding → Mark → OpenElements → List ℕ → Option State
 marked e dashes place seen = Some (back place)
 marked e question place seen = Some (back place)
-marked e brackets place seen = on_frame place (λ frame outer. Some (back (within (with_text frame (utf8_of e (forward (drop 2 seen)))) outer)))
+marked e brackets place seen =
+    on_frame place (λ frame outer. Some (back (within (with_text frame (utf8_of e (forward (drop 2 seen)))) outer)))
 
--- the byte behind a run
-abbrev pub behind : Encoding → Kind → Place → List ℕ → ℕ → Option State
-behind e in_run place seen c = on_frame place (λ frame outer. Some (opened (within (with_text frame (expanded e (forward seen))) outer)))
-behind e in_name place seen c = tag_step e (forward seen) place c
-behind e (in_label name) place seen c = equals_step name place c
-behind e (in_quotes quote name) place seen c = cond (c == quote_byte quote) (Some (in_tag closed name place)) None
-behind e (in_marks mark) place seen c = marked e mark place seen
+-- the byte after a run
+abbrev pub after : Encoding → Kind → OpenElements → List ℕ → ℕ → Option State
+after e in_run place seen c =
+    on_frame place (λ frame outer. Some (opened (within (with_text frame (expanded e (forward seen))) outer)))
+after e in_name place seen c = tag_step e (forward seen) place c
+after e (in_label name) place seen c = equals_step name place c
+after e (in_quotes quote name) place seen c = if c == quote_byte quote then Some (in_tag closed name place) else None
+after e (in_marks mark) place seen c = marked e mark place seen
 
 abbrev pub if_whole : Tail → Option State → Option State
 if_whole Whole next = next
 if_whole One next = None
 if_whole Two next = None
 if_whole Three next = None
-if_whole BehindE0 next = None
-if_whole BehindEd next = None
-if_whole BehindF0 next = None
-if_whole BehindF4 next = None
+if_whole AfterE0 next = None
+if_whole AfterEd next = None
+if_whole AfterF0 next = None
+if_whole AfterF4 next = None
 
 abbrev pub if_some_tail : Option Tail → (Tail → Option State) → Option State
 if_some_tail None f = None
 if_some_tail (Some tail) f = f tail
 
-abbrev pub segment_step : Encoding → Kind → Place → List ℕ → Tail → ℕ → Option State
+abbrev pub segment_step : Encoding → Kind → OpenElements → List ℕ → Tail → ℕ → Option State
 segment_step e kind place seen tail c =
-    cond (stops kind seen c) (if_whole tail (behind e kind place seen c)) (if_some_tail (next_tail e tail c) (λ next. Some (in_segment kind place (c ∷ seen) next)))
+    if stops kind seen c then if_whole tail (after e kind place seen c)
+    else if_some_tail (next_tail e tail c) (λ next. Some (in_segment kind place (c ∷ seen) next))
 
-abbrev pub close : Encoding → Frame → Place → Option State
+abbrev pub close : Encoding → OpenElement → OpenElements → Option State
 close e frame outer = Some (back (with_child outer (tree_of frame)))
 
-abbrev pub spot_step : Encoding → Spot → List ℕ → Place → ℕ → Option State
-spot_step e spaced name place c = cond (is_name_start c) (if_some_tail (next_tail e Whole c) (λ next. Some (in_segment (in_label name) place (c ∷ []) next))) (tag_step e name place c)
+abbrev pub spot_step : Encoding → Spot → List ℕ → OpenElements → ℕ → Option State
+spot_step e spaced name place c =
+    if is_name_start c
+    then if_some_tail (next_tail e Whole c) (λ next. Some (in_segment (in_label name) place (c ∷ []) next))
+    else tag_step e name place c
 spot_step e equals name place c = equals_step name place c
 spot_step e value name place c =
-    cond (is_space c) (Some (in_tag value name place))
-    (cond (c == 34) (Some (in_segment (in_quotes double name) place [] Whole)) (cond (c == 39) (Some (in_segment (in_quotes single name) place [] Whole)) None))
+    if is_white c then Some (in_tag value name place) else
+    if c == quotation_mark then Some (in_segment (in_quotes double name) place [] Whole) else if c == apostrophe
+    then Some (in_segment (in_quotes single name) place [] Whole) else None
 spot_step e closed name place c = tag_step e name place c
-spot_step e slash name place c = cond (c == 62) (Some (back (with_child place (tree_of (fresh e name))))) None
+spot_step e after_slash name place c =
+    if c == greater_than then Some (back (with_child place (tree_of (fresh e name)))) else None
 
-abbrev pub behind_name_step : Encoding → Frame → Place → ℕ → Option State
-behind_name_step e frame outer c = cond (is_space c) (Some (behind_name frame outer)) (cond (c == 62) (close e frame outer) None)
+abbrev pub after_name_step : Encoding → OpenElement → OpenElements → ℕ → Option State
+after_name_step e frame outer c =
+    if is_white c then Some (after_name frame outer) else if c == greater_than then close e frame outer else None
 
-abbrev pub end_step : Encoding → List ℕ → List ℕ → Frame → Place → ℕ → Option State
-end_step e done [] frame outer c = behind_name_step e frame outer c
-end_step e done (b ∷ left) frame outer c = cond (c == b) (Some (in_end (done ++ b ∷ []) left frame outer)) None
+abbrev pub end_step : Encoding → List ℕ → List ℕ → OpenElement → OpenElements → ℕ → Option State
+end_step e done [] frame outer c = after_name_step e frame outer c
+end_step e done (b ∷ left) frame outer c = if c == b then Some (in_end (done ++ b ∷ []) left frame outer) else None
 
-abbrev pub cdata_step : List ℕ → Frame → Place → ℕ → Option State
+abbrev pub cdata_step : List ℕ → OpenElement → OpenElements → ℕ → Option State
 cdata_step [] frame outer c = None
-cdata_step (b ∷ []) frame outer c = cond (c == b) (Some (in_segment (in_marks brackets) (within frame outer) [] Whole)) None
-cdata_step (b ∷ (d ∷ left)) frame outer c = cond (c == b) (Some (in_cdata (d ∷ left) frame outer)) None
+cdata_step (b ∷ []) frame outer c =
+    if c == b then Some (in_segment (in_marks brackets) (within frame outer) [] Whole) else None
+cdata_step (b ∷ (d ∷ left)) frame outer c = if c == b then Some (in_cdata (d ∷ left) frame outer) else None
 
-abbrev pub open_step : Place → Option State → Option State
-open_step place next = cond (may_open place) next None
+abbrev pub open_step : OpenElements → Option State → Option State
+open_step place next = if may_open place then next else None
 
-abbrev pub opened_step : Encoding → Place → ℕ → Option State
+abbrev pub opened_step : Encoding → OpenElements → ℕ → Option State
 opened_step e place c =
-    cond (is_name_start c) (open_step place (if_some_tail (next_tail e Whole c) (λ next. Some (in_segment in_name place (c ∷ []) next))))
-    (cond (c == 33) (Some (bang place))
-    (cond (c == 63) (Some (in_segment (in_marks question) place [] Whole))
-    (cond (c == 47) (on_frame place (λ frame outer. Some (in_end [] frame.name frame outer))) None)))
+    if is_name_start c
+    then open_step place
+    (if_some_tail (next_tail e Whole c) (λ next. Some (in_segment in_name place (c ∷ []) next))) else
+    if c == exclamation_mark then Some (bang place) else
+    if c == question_mark then Some (in_segment (in_marks question) place [] Whole) else
+    if c == slash then on_frame place (λ frame outer. Some (in_end [] frame.name frame outer)) else None
 
-abbrev pub bang_step : Place → ℕ → Option State
-bang_step place c = cond (c == 45) (Some (dash place)) (cond (c == 91) (on_frame place (λ frame outer. Some (in_cdata (codes "CDATA[") frame outer))) None)
+abbrev pub bang_step : OpenElements → ℕ → Option State
+bang_step place c =
+    if c == dash then Some (after_dash place) else if c == opening_bracket
+    then on_frame place (λ frame outer. Some (in_cdata (codes "CDATA[") frame outer)) else None
 
 abbrev pub step : Encoding → State → ℕ → Option State
-step e (between root) c = cond (is_space c) (Some (between root)) (cond (c == 60) (Some (opened (outside root))) None)
+step e (between root) c =
+    if is_white c then Some (between root) else if c == less_than then Some (opened (outside root)) else None
 step e (opened place) c = opened_step e place c
 step e (bang place) c = bang_step place c
-step e (dash place) c = cond (c == 45) (Some (in_segment (in_marks dashes) place [] Whole)) None
+step e (after_dash place) c = if c == dash then Some (in_segment (in_marks dashes) place [] Whole) else None
 step e (in_cdata left frame outer) c = cdata_step left frame outer c
 step e (in_segment kind place seen tail) c = segment_step e kind place seen tail c
 step e (in_tag spot name place) c = spot_step e spot name place c
 step e (in_end done left frame outer) c = end_step e done left frame outer c
-step e (behind_name frame outer) c = behind_name_step e frame outer c
+step e (after_name frame outer) c = after_name_step e frame outer c
 
 abbrev pub outcome : State → Option Tree
 outcome (between root) = root
 outcome (opened place) = None
 outcome (bang place) = None
-outcome (dash place) = None
+outcome (after_dash place) = None
 outcome (in_cdata left frame outer) = None
 outcome (in_segment kind place seen tail) = None
 outcome (in_tag spot name place) = None
 outcome (in_end done left frame outer) = None
-outcome (behind_name frame outer) = None
+outcome (after_name frame outer) = None
 
--- What is known of a front that leads to a state.
+-- What is known of a prefix that leads to a state.
 
-pub record FitsFrame (e : Encoding) (edge : Edge) (Outer : List ℕ → Type 0) (frame : Frame) (outer : Place) (front : List ℕ) : Type 0 where
+pub record FitsFrame (e : Encoding) (edge : Edge) (Outer : List ℕ → Type 0) (frame : OpenElement)
+    (outer : OpenElements) (prefix : List ℕ) : Type 0 where
   pub before : List ℕ
   pub tag : List ℕ
   pub bytes : List ℕ
@@ -226,35 +253,36 @@ pub record FitsFrame (e : Encoding) (edge : Edge) (Outer : List ℕ → Type 0) 
   pub room : ℕ
   pub is_outer : Outer before
   pub free : may_open outer ≡ true
-  pub is_tag : IsTagFront e frame.name tag
+  pub is_tag : IsTagPrefix e frame.name tag
   pub deep : suc (depth outer) + room ≡ 64
   pub content : Content e inner room edge bytes text frame.children
   pub labelled : frame.label ≡ utf8_of e (local frame.name)
   pub trimmed : frame.text ≡ skip_space text
-  pub whole : front ≡ before ++ (tag ++ 62 ∷ bytes)
+  pub whole : prefix ≡ before ++ (tag ++ (codes ">" ++ bytes))
 
 -- bytes that leave this open
-abbrev pub FitsPlace : Encoding → Edge → Place → List ℕ → Type 0
-FitsPlace e edge (outside root) front = Content e top 64 edge front [] (root_list root)
-FitsPlace e edge (within frame outer) front = FitsFrame e edge (FitsPlace e chars outer) frame outer front
+abbrev pub FitsElements : Encoding → Edge → OpenElements → List ℕ → Type 0
+FitsElements e edge (outside root) prefix = Content e top 64 edge prefix [] (root_list root)
+FitsElements e edge (within frame outer) prefix = FitsFrame e edge (FitsElements e chars outer) frame outer prefix
 
 -- the same, and more bytes
-pub record FitsMore (e : Encoding) (place : Place) (more front : List ℕ) : Type 0 where
+pub record FitsMore (e : Encoding) (place : OpenElements) (more prefix : List ℕ) : Type 0 where
   pub before : List ℕ
-  pub is_place : FitsPlace e chars place before
-  pub whole : front ≡ before ++ more
+  pub is_place : FitsElements e chars place before
+  pub whole : prefix ≡ before ++ more
 
-pub record FitsTag (e : Encoding) (Gap : List ℕ → Type 0) (name : List ℕ) (place : Place) (front : List ℕ) : Type 0 where
+pub record FitsTag (e : Encoding) (Gap : List ℕ → Type 0) (name : List ℕ) (place : OpenElements)
+    (prefix : List ℕ) : Type 0 where
   pub before : List ℕ
   pub attributes : List ℕ
   pub gap : List ℕ
-  pub is_place : FitsPlace e chars place before
+  pub is_place : FitsElements e chars place before
   pub free : may_open place ≡ true
   pub is_name : IsName e name
   pub are_attributes : Attributes e attributes
-  pub is_gap : every is_space gap ≡ true
+  pub is_gap : list_all is_white gap ≡ true
   pub some_gap : Gap gap
-  pub whole : front ≡ before ++ 60 ∷ (name ++ (attributes ++ gap))
+  pub whole : prefix ≡ before ++ (codes "<" ++ (name ++ (attributes ++ gap)))
 
 abbrev pub AnyGap : List ℕ → Type 0
 AnyGap gap = Unit {0}
@@ -263,92 +291,96 @@ abbrev pub SomeGap : List ℕ → Type 0
 SomeGap gap = has_some gap ≡ true
 
 -- an attribute's name and white space
-pub record FitsEquals (e : Encoding) (name : List ℕ) (place : Place) (front : List ℕ) : Type 0 where
+pub record FitsEquals (e : Encoding) (name : List ℕ) (place : OpenElements) (prefix : List ℕ) : Type 0 where
   pub before : List ℕ
   pub label : List ℕ
   pub left : List ℕ
   pub is_tag : FitsTag e SomeGap name place before
   pub is_name : IsName e label
-  pub left_space : every is_space left ≡ true
-  pub whole : front ≡ before ++ (label ++ left)
+  pub left_space : list_all is_white left ≡ true
+  pub whole : prefix ≡ before ++ (label ++ left)
 
-pub record FitsAssigned (e : Encoding) (more name : List ℕ) (place : Place) (front : List ℕ) : Type 0 where
+pub record FitsAssigned (e : Encoding) (more name : List ℕ) (place : OpenElements) (prefix : List ℕ) : Type 0 where
   pub before : List ℕ
   pub assigned : List ℕ
   pub is_tag : FitsTag e SomeGap name place before
   pub is_assigned : IsAssigned e assigned
-  pub whole : front ≡ before ++ (assigned ++ more)
+  pub whole : prefix ≡ before ++ (assigned ++ more)
 
-abbrev pub FitsSpot : Encoding → Spot → List ℕ → Place → List ℕ → Type 0
-FitsSpot e spaced name place front = FitsTag e SomeGap name place front
-FitsSpot e equals name place front = FitsEquals e name place front
-FitsSpot e value name place front = FitsAssigned e [] name place front
-FitsSpot e closed name place front = FitsTag e AnyGap name place front
-FitsSpot e slash name place front = (before : List ℕ) × FitsTag e AnyGap name place before × (front ≡ before ++ 47 ∷ [])
+abbrev pub FitsSpot : Encoding → Spot → List ℕ → OpenElements → List ℕ → Type 0
+FitsSpot e spaced name place prefix = FitsTag e SomeGap name place prefix
+FitsSpot e equals name place prefix = FitsEquals e name place prefix
+FitsSpot e value name place prefix = FitsAssigned e [] name place prefix
+FitsSpot e closed name place prefix = FitsTag e AnyGap name place prefix
+FitsSpot e after_slash name place prefix =
+    (before : List ℕ) × FitsTag e AnyGap name place before × (prefix ≡ before ++ codes "/")
 
-abbrev pub Inside : Place → Type 0
+abbrev pub Inside : OpenElements → Type 0
 Inside (outside root) = ⊥
 Inside (within frame outer) = Unit {0}
 
-abbrev pub MayStand : Mark → Place → Type 0
+abbrev pub MayStand : Mark → OpenElements → Type 0
 MayStand dashes place = Unit {0}
 MayStand question place = Unit {0}
 MayStand brackets place = Inside place
 
 -- what stands before the bytes of a run
-abbrev pub FitsKind : Encoding → Kind → Place → List ℕ → Type 0
-FitsKind e in_run place front = FitsPlace e markup place front × Inside place
-FitsKind e in_name place front = FitsMore e place (60 ∷ []) front × (may_open place ≡ true)
-FitsKind e (in_label name) place front = FitsTag e SomeGap name place front
-FitsKind e (in_quotes quote name) place front = FitsAssigned e (quote_byte quote ∷ []) name place front
-FitsKind e (in_marks mark) place front = FitsMore e place (opening mark) front × MayStand mark place
+abbrev pub FitsKind : Encoding → Kind → OpenElements → List ℕ → Type 0
+FitsKind e in_run place prefix = FitsElements e markup place prefix × Inside place
+FitsKind e in_name place prefix = FitsMore e place (codes "<") prefix × (may_open place ≡ true)
+FitsKind e (in_label name) place prefix = FitsTag e SomeGap name place prefix
+FitsKind e (in_quotes quote name) place prefix = FitsAssigned e (quote_byte quote ∷ []) name place prefix
+FitsKind e (in_marks mark) place prefix = FitsMore e place (opening mark) prefix × MayStand mark place
 
 -- what is known of the bytes of a run
 abbrev pub IsRun : Kind → List ℕ → Type 0
-IsRun in_run seen = every is_plain (forward seen) ≡ true
+IsRun in_run seen = list_all is_plain (forward seen) ≡ true
 IsRun in_name seen = is_name (forward seen) ≡ true
 IsRun (in_label name) seen = is_name (forward seen) ≡ true
-IsRun (in_quotes quote name) seen = every (in_value quote) (forward seen) ≡ true
+IsRun (in_quotes quote name) seen = list_all (in_value quote) (forward seen) ≡ true
 IsRun (in_marks mark) seen = (text : List ℕ) → ends_from mark [] (forward seen ++ text) ≡ ends_from mark seen text
 
-pub record FitsSegment (e : Encoding) (kind : Kind) (place : Place) (seen : List ℕ) (tail : Tail) (front : List ℕ) : Type 0 where
+pub record FitsSegment (e : Encoding) (kind : Kind) (place : OpenElements) (seen : List ℕ) (tail : Tail)
+    (prefix : List ℕ) : Type 0 where
   pub before : List ℕ
   pub is_kind : FitsKind e kind place before
   pub is_run : IsRun kind seen
   pub lacks : tails e Whole (forward seen) ≡ Some tail
-  pub whole : front ≡ before ++ forward seen
+  pub whole : prefix ≡ before ++ forward seen
 
-pub record FitsEnd (e : Encoding) (done left : List ℕ) (frame : Frame) (outer : Place) (front : List ℕ) : Type 0 where
+pub record FitsEnd (e : Encoding) (done left : List ℕ) (frame : OpenElement) (outer : OpenElements)
+    (prefix : List ℕ) : Type 0 where
   pub before : List ℕ
-  pub is_place : FitsPlace e chars (within frame outer) before
+  pub is_place : FitsElements e chars (within frame outer) before
   pub split : done ++ left ≡ frame.name
-  pub whole : front ≡ before ++ 60 ∷ (47 ∷ done)
+  pub whole : prefix ≡ before ++ (codes "</" ++ done)
 
-pub record FitsBehind (e : Encoding) (frame : Frame) (outer : Place) (front : List ℕ) : Type 0 where
+pub record FitsAfter (e : Encoding) (frame : OpenElement) (outer : OpenElements) (prefix : List ℕ) : Type 0 where
   pub before : List ℕ
   pub gap : List ℕ
-  pub is_place : FitsPlace e chars (within frame outer) before
-  pub is_gap : every is_space gap ≡ true
-  pub whole : front ≡ before ++ 60 ∷ (47 ∷ (frame.name ++ gap))
+  pub is_place : FitsElements e chars (within frame outer) before
+  pub is_gap : list_all is_white gap ≡ true
+  pub whole : prefix ≡ before ++ (codes "</" ++ (frame.name ++ gap))
 
-pub record FitsCdata (e : Encoding) (left : List ℕ) (frame : Frame) (outer : Place) (front : List ℕ) : Type 0 where
+pub record FitsCdata (e : Encoding) (left : List ℕ) (frame : OpenElement) (outer : OpenElements)
+    (prefix : List ℕ) : Type 0 where
   pub before : List ℕ
   pub done : List ℕ
-  pub is_place : FitsPlace e chars (within frame outer) before
+  pub is_place : FitsElements e chars (within frame outer) before
   pub split : done ++ left ≡ codes "<![CDATA["
   pub some : has_some left ≡ true
-  pub whole : front ≡ before ++ done
+  pub whole : prefix ≡ before ++ done
 
 abbrev pub Fits : Encoding → State → List ℕ → Type 0
-Fits e (between root) front = FitsPlace e chars (outside root) front
-Fits e (opened place) front = FitsMore e place (codes "<") front
-Fits e (bang place) front = FitsMore e place (codes "<!") front
-Fits e (dash place) front = FitsMore e place (codes "<!-") front
-Fits e (in_cdata left frame outer) front = FitsCdata e left frame outer front
-Fits e (in_segment kind place seen tail) front = FitsSegment e kind place seen tail front
-Fits e (in_tag spot name place) front = FitsSpot e spot name place front
-Fits e (in_end done left frame outer) front = FitsEnd e done left frame outer front
-Fits e (behind_name frame outer) front = FitsBehind e frame outer front
+Fits e (between root) prefix = FitsElements e chars (outside root) prefix
+Fits e (opened place) prefix = FitsMore e place (codes "<") prefix
+Fits e (bang place) prefix = FitsMore e place (codes "<!") prefix
+Fits e (after_dash place) prefix = FitsMore e place (codes "<!-") prefix
+Fits e (in_cdata left frame outer) prefix = FitsCdata e left frame outer prefix
+Fits e (in_segment kind place seen tail) prefix = FitsSegment e kind place seen tail prefix
+Fits e (in_tag spot name place) prefix = FitsSpot e spot name place prefix
+Fits e (in_end done left frame outer) prefix = FitsEnd e done left frame outer prefix
+Fits e (after_name frame outer) prefix = FitsAfter e frame outer prefix
 
 -- the reader with any outcome: with `Some`, what it reads is the state that it comes to
 abbrev pub reader_with : Encoding → (V : Type 0) → (State → Option V) → Reader State V

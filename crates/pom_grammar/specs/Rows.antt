@@ -19,7 +19,8 @@ numbers : expanded Utf8 (codes "&#65;&#x42;&#0000067;&#xe9;") ≡ codes "ABC" ++
 unfolding lib.Utf8.encode
 numbers = refl
 
-as_written : expanded Utf8 (codes "&foo;&#0;&#xD800;&#x110000;&#;&amp &&lt;") ≡ codes "&foo;&#0;&#xD800;&#x110000;&#;&amp &<"
+as_written : expanded Utf8 (codes "&foo;&#0;&#xD800;&#x110000;&#;&amp &&lt;")
+    ≡ codes "&foo;&#0;&#xD800;&#x110000;&#;&amp &<"
 unfolding lib.Utf8.encode
 as_written = refl
 
@@ -49,13 +50,13 @@ latin1 : utf8_of Latin1 (233 ∷ []) ≡ 195 ∷ (169 ∷ [])
 unfolding lib.Utf8.encode
 latin1 = refl
 
-pending : tails Utf8 Whole (97 ∷ (195 ∷ [])) ≡ Some One
+pending : tails Utf8 Whole (codes "a" ++ 195 ∷ []) ≡ Some One
 pending = refl
 
 no_surrogate : tails Utf8 Whole (237 ∷ (160 ∷ [])) ≡ None
 no_surrogate = refl
 
-no_high : tails Ascii Whole (97 ∷ (128 ∷ [])) ≡ None
+no_high : tails Ascii Whole (codes "a" ++ 128 ∷ []) ≡ None
 no_high = refl
 
 nothing_read : whole_verdict [] ≡ Err (BadText 0)
@@ -80,7 +81,14 @@ level_65 = refl
 level_64 : whole_verdict (start_tags 64) ≡ Err (BadText 192)
 level_64 = refl
 
-tree_read : whole_verdict (codes "<x:a> 1&lt;<b/>2 <![CDATA[&lt;]]> </x:a>") ≡ Ok (roll-Tree (record { name = codes "a"; text = codes "1<2 &lt;"; children = roll-Tree (record { name = codes "b"; text = []; children = [] }) ∷ [] }))
+tree_read : whole_verdict (codes "<x:a> 1&lt;<b/>2 <![CDATA[&lt;]]> </x:a>")
+    ≡ Ok (roll-Tree
+    (record {
+      name = codes "a";
+      text = codes "1<2 &lt;";
+      children =
+          roll-Tree (record { name = codes "b"; text = []; children = [] }) ∷ [];
+    }))
 unfolding lib.Utf8.encode
 tree_read = refl
 

@@ -1,3 +1,5 @@
+//! The encodings of documents, and how far a character or the word `encoding` has been read.
+
 /// How the bytes of a text stand for characters.
 #[derive(Clone, Copy, Debug, PartialEq, Eq, Drop)]
 pub enum Encoding {
@@ -6,7 +8,7 @@ pub enum Encoding {
     Latin1,
 }
 
-/// What is missing to the end of a character: nothing, so many bytes, or the bytes behind a first
+/// What is missing to the end of a character: nothing, so many bytes, or the bytes after a first
 /// byte that restricts the second.
 #[derive(Clone, Copy, Debug, PartialEq, Eq, Drop)]
 pub enum Tail {
@@ -14,10 +16,10 @@ pub enum Tail {
     One,
     Two,
     Three,
-    BehindE0,
-    BehindEd,
-    BehindF0,
-    BehindF4,
+    AfterE0,
+    AfterEd,
+    AfterF0,
+    AfterF4,
 }
 
 /// How far a search for `encoding`, an equals sign and a quote has come, white space between them

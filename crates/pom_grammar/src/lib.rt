@@ -11,4 +11,4 @@ mod tree;
 
 pub use encoding::{Encoding, Seek, Tail};
 pub use laws::{documents_are_read, one_answer, one_tree, verdict_says};
-pub use tree::{TextErr, Tree};
+pub use tree::{MOST_LEVELS, TextErr, Tree};

@@ -1,3 +1,4 @@
+-- What the reader of the grammar does over each run, mark, tag and text that the code scans at once.
 pub mod Runs
 pub mod MarkRuns
 pub mod TableFacts

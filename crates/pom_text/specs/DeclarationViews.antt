@@ -1,5 +1,6 @@
 -- What the code knows of a declaration, as the reader has it.
 use Rattle.std.specs.Prelude.{ℕ, ◌≤◌, Bool, true, false, ◌==◌, List, [], ◌∷◌, slice_range}
+use Rattle.ascii_bytes.specs.Signs.{question_mark}
 use Rattle.pom_text.specs.declared.declaration.Named.{Named}
 use Rattle.pom_text.specs.declared.declaration.Named.TheVariants.{Not, Value, Closed}
 use Rattle.pom_text.specs.declared.declaration.Seen.{Seen}
@@ -11,7 +12,7 @@ abbrev pub quote_of : Bool → Quote
 quote_of true = double
 quote_of false = single
 
--- behind the bytes below a place
+-- after the bytes below a place
 abbrev pub named_view : List ℕ → ℕ → Named → Found
 named_view bytes at (Not seek) = seeking seek
 named_view bytes at (Value is_double start) = naming (quote_of is_double) (slice_range bytes start at)
@@ -33,4 +34,4 @@ seen_view bytes at seen = record { found = named_view bytes at seen.named; utf8 
 -- whether a question mark was seen last
 abbrev pub ends_question : List ℕ → Bool
 ends_question [] = false
-ends_question (c ∷ seen) = c == 63
+ends_question (c ∷ seen) = c == question_mark

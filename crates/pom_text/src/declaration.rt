@@ -1,22 +1,24 @@
+//! The byte-order mark and the declaration, and the encoding that it names.
+
 ghost use Rattle.std.specs.Prelude.{◌≡◌, ◌+◌, ◌<◌, ◌≤◌, ◌==◌, ℕ, List, [], ◌∷◌, true, false, length, drop, slice_index, slice_range, IfOk, IfErr, IsErr, IsTrue, Err, Ok, Some, None};
-ghost use Rattle.pom_grammar.specs.Encodings.{goes_on, next_tail as next_tail_spec};
+ghost use Rattle.pom_grammar.specs.Encodings.{goes_on, next_tail};
 ghost use Rattle.pom_grammar.specs.Characters.{begins_with};
-ghost use Rattle.pom_grammar.specs.Declarations.{seek_if as seek_spec, next_seek as next_seek_spec, next_found, seeking, lowered, encodings as encoding_rows, encoding_of, declares};
+ghost use Rattle.pom_grammar.specs.Declarations.{seek_if, next_seek, next_found, seeking, lowered, encoding_rows, encoding_of, declares};
 ghost use Rattle.pom_grammar.specs.Document.{quote_byte};
 ghost use Rattle.pom_grammar.specs.Machine.{between};
-ghost use Rattle.pom_grammar.specs.Heads.{begins_latin1 as latin1_test, told as told_spec, is_alive as alive_test, is_finished as finished_test, body_in, in_body, next_telling, may_go_on, in_declaration, nothing_told, starting, at_start};
-ghost use Rattle.pom_grammar.specs.Verdicts.{verdict, reading_verdict, unknown_from, unknown_behind, unless_unknown, start_next, if_unknown as unknown_spec, whole_verdict};
+ghost use Rattle.pom_grammar.specs.Heads.{begins_latin1, told, is_alive, is_finished, body_in, in_body, next_telling, may_go_on, in_declaration, nothing_told, starting, at_start};
+ghost use Rattle.pom_grammar.specs.Verdicts.{verdict, reading_verdict, unknown_from, unknown_after, unless_unknown, start_next, if_unknown, whole_verdict};
 ghost use Rattle.pom_text.specs.DeclarationViews.{IsNamed, named_view, start_of, seen_view, quote_of};
 
-use crate::characters::is_space;
 use crate::encoding::next_tail;
 use crate::scans::{is_at, space_at, stands};
 use crate::tables::known;
 use crate::tree::bad_text;
+use ascii_bytes::is_white;
 use case_table::Table;
 use pom_grammar::{Encoding, Seek, Tail, TextErr};
 
-/// What is known of the encoding behind a front of the declaration. Places are from the start of
+/// What is known of the encoding after a prefix of the declaration. Places are from the start of
 /// the input.
 #[derive(Clone, Copy, Drop)]
 enum Named {
@@ -26,7 +28,7 @@ enum Named {
 }
 
 fn seek_if(wanted: u8, next: Seek, byte: u8) -> Seek
-    ensures { result ≡ seek_spec wanted next byte }
+    ensures { result ≡ seek_if wanted next byte }
 {
     if byte == wanted {
         next
@@ -38,7 +40,7 @@ fn seek_if(wanted: u8, next: Seek, byte: u8) -> Seek
 }
 
 fn next_seek(seek: Seek, byte: u8) -> Seek
-    ensures { result ≡ next_seek_spec seek byte }
+    ensures { result ≡ next_seek seek byte }
 {
     match seek {
         Seek::Nothing => seek_if(b'e', Seek::E, byte),
@@ -50,14 +52,14 @@ fn next_seek(seek: Seek, byte: u8) -> Seek
         Seek::Encodi => seek_if(b'n', Seek::Encodin, byte),
         Seek::Encodin => seek_if(b'g', Seek::Word, byte),
         Seek::Word => {
-            if is_space(byte) {
+            if is_white(byte) {
                 Seek::Word
             } else {
                 seek_if(b'=', Seek::Equals, byte)
             }
         }
         Seek::Equals => {
-            if is_space(byte) {
+            if is_white(byte) {
                 Seek::Equals
             } else {
                 seek_if(b'e', Seek::E, byte)
@@ -66,7 +68,7 @@ fn next_seek(seek: Seek, byte: u8) -> Seek
     }
 }
 
-/// What is known behind the byte at a place, where no value has begun.
+/// What is known after the byte at a place, where no value has begun.
 fn next_sought(bytes: &[u8], seek: Seek, at: usize) -> Named
     requires { at < length bytes.now }
     ensures view { named_view bytes.now (at + 1) result ≡ next_found (seeking seek) (slice_index bytes.now at) }
@@ -100,12 +102,14 @@ fn quote_sign(double: bool) -> u8
     if double { b'"' } else { b'\'' }
 }
 
-/// What is known behind the byte at a place.
+/// What is known after the byte at a place.
 fn next_named(bytes: &[u8], named: Named, at: usize) -> Named
     requires within { at < length bytes.now }
     requires is_named { IsNamed at named }
-    ensures view { named_view bytes.now (at + 1) result ≡ next_found (named_view bytes.now at named) (slice_index bytes.now at) }
-    ensures start { start_next (named_view bytes.now at named) (slice_index bytes.now at) at (start_of named) ≡ start_of result }
+    ensures view { named_view bytes.now (at + 1) result
+        ≡ next_found (named_view bytes.now at named) (slice_index bytes.now at) }
+    ensures start { start_next (named_view bytes.now at named) (slice_index bytes.now at) at (start_of named)
+        ≡ start_of result }
     ensures fits { IsNamed (at + 1) result }
 {
     match named {
@@ -136,12 +140,12 @@ fn lowered_begins(name: &[u8], wanted: &[u8]) -> bool
 }
 
 fn begins_latin1(name: &[u8]) -> bool
-    ensures { result ≡ latin1_test name.now }
+    ensures { result ≡ begins_latin1 name.now }
 {
     lowered_begins(name, b"iso-8859-1") || lowered_begins(name, b"latin1")
 }
 
-/// What is known behind a front of the declaration: the encoding, what its last character lacks in
+/// What is known after a prefix of the declaration: the encoding, what its last character lacks in
 /// UTF-8 and in ASCII, unless it is no such text, and whether a question mark came last.
 #[derive(Clone, Copy, Drop)]
 struct Seen {
@@ -152,7 +156,7 @@ struct Seen {
 }
 
 fn then_tail(encoding: Encoding, before: Option<Tail>, byte: u8) -> Option<Tail>
-    ensures { result ≡ goes_on before (λ tail. next_tail_spec encoding tail byte) }
+    ensures { result ≡ goes_on before (λ tail. next_tail encoding tail byte) }
 {
     match before {
         Some(tail) => next_tail(encoding, tail, byte),
@@ -163,7 +167,8 @@ fn then_tail(encoding: Encoding, before: Option<Tail>, byte: u8) -> Option<Tail>
 fn next_seen(bytes: &[u8], seen: Seen, at: usize) -> Seen
     requires within { at < length bytes.now }
     requires is_named { IsNamed at seen.named }
-    ensures view { seen_view bytes.now (at + 1) result ≡ next_telling (seen_view bytes.now at seen) (slice_index bytes.now at) }
+    ensures view { seen_view bytes.now (at + 1) result
+        ≡ next_telling (seen_view bytes.now at seen) (slice_index bytes.now at) }
     ensures fits { IsNamed (at + 1) result.named }
     ensures question { result.question ≡ (slice_index bytes.now at == 63) }
 {
@@ -176,9 +181,9 @@ fn next_seen(bytes: &[u8], seen: Seen, at: usize) -> Seen
     }
 }
 
-/// What the last character of the front lacks in this encoding.
+/// What the last character of the prefix lacks in this encoding.
 fn told(bytes: &[u8], at: usize, seen: &Seen, encoding: Encoding) -> Option<Tail>
-    ensures { result ≡ told_spec encoding (seen_view bytes.now at seen.now) }
+    ensures { result ≡ told encoding (seen_view bytes.now at seen.now) }
 {
     match encoding {
         Encoding::Utf8 => seen.utf8,
@@ -202,18 +207,18 @@ fn given(encodings: &Table<Encoding>, bytes: &[u8], at: usize, named: Named) -> 
 }
 
 fn is_alive(tail: Option<Tail>) -> bool
-    ensures { result ≡ alive_test tail }
+    ensures { result ≡ is_alive tail }
 {
     tail.is_some()
 }
 
 fn is_finished(tail: Option<Tail>) -> bool
-    ensures { result ≡ finished_test tail }
+    ensures { result ≡ is_finished tail }
 {
     matches!(tail, Some(Tail::Whole))
 }
 
-/// Whether the front up to a place can go on.
+/// Whether the prefix up to a place can go on.
 fn lives(encodings: &Table<Encoding>, bytes: &[u8], at: usize, seen: &Seen) -> bool
     requires within { at ≤ length bytes.now }
     requires is_named { IsNamed at seen.now.named }
@@ -235,7 +240,7 @@ fn if_unknown(encodings: &Table<Encoding>, bytes: &[u8], at: usize, named: Named
     requires within { at ≤ length bytes.now }
     requires is_named { IsNamed at named }
     requires table { encodings.now ≡ encoding_rows }
-    ensures { result ≡ unknown_spec (named_view bytes.now at named) (start_of named) }
+    ensures { result ≡ if_unknown (named_view bytes.now at named) (start_of named) }
 {
     match named {
         Named::Closed { start, end } => match known(encodings, &bytes[start..end]) {
@@ -265,7 +270,7 @@ fn unknown(encodings: &Table<Encoding>, bytes: &[u8], at: usize) -> Option<usize
     None
 }
 
-/// The place behind a declaration and its encoding.
+/// The place after a declaration and its encoding.
 #[derive(Drop)]
 pub(crate) struct Head {
     pub(crate) at: usize,
@@ -283,9 +288,12 @@ fn head_end(
     requires is_named { IsNamed at seen.now.named }
     requires table { encodings.now ≡ encoding_rows }
     ensures at { IfOk result (λ head. head.at ≡ at + 1) }
-    ensures ok { IfOk result (λ head. body_in (encoding_of (named_view bytes.now at seen.now.named)) (seen_view bytes.now at seen.now) ≡ Some (in_body head.encoding (between None))) }
+    ensures ok { IfOk result
+        (λ head. body_in (encoding_of (named_view bytes.now at seen.now.named)) (seen_view bytes.now at seen.now)
+        ≡ Some (in_body head.encoding (between None))) }
     ensures err { IfErr result (λ fault. fault ≡ TextErr.BadText at) }
-    ensures none { IsErr result → body_in (encoding_of (named_view bytes.now at seen.now.named)) (seen_view bytes.now at seen.now) ≡ None }
+    ensures none { IsErr result
+        → body_in (encoding_of (named_view bytes.now at seen.now.named)) (seen_view bytes.now at seen.now) ≡ None }
 {
     match given(encodings, bytes, at, seen.named) {
         Some(encoding) => {
@@ -302,14 +310,19 @@ fn head_end(
     }
 }
 
-/// The declaration's text, behind `<?xml` and a white space.
+/// The declaration's text, after `<?xml` and a white space.
 fn declared_text(encodings: &Table<Encoding>, bytes: &[u8], at: usize) -> Result<Head, TextErr>
     requires within { at ≤ length bytes.now }
     requires table { encodings.now ≡ encoding_rows }
     ensures forth { IfOk result (λ head. at ≤ head.at) }
     ensures past { IfOk result (λ head. head.at ≤ length bytes.now) }
-    ensures ok { IfOk result (λ head. (space : ℕ) → reading_verdict (in_declaration space [] nothing_told) (drop at bytes.now) at ≡ verdict head.encoding (between None) (drop head.at bytes.now) head.at) }
-    ensures err { IfErr result (λ fault. (space : ℕ) → reading_verdict (in_declaration space [] nothing_told) (drop at bytes.now) at ≡ Err fault) }
+    ensures ok { IfOk result
+        (λ head. (space : ℕ)
+        → reading_verdict (in_declaration space [] nothing_told) (drop at bytes.now) at
+        ≡ verdict head.encoding (between None) (drop head.at bytes.now) head.at) }
+    ensures err { IfErr result
+        (λ fault. (space : ℕ)
+        → reading_verdict (in_declaration space [] nothing_told) (drop at bytes.now) at ≡ Err fault) }
 {
     let mut seen = Seen {
         named: Named::Not(Seek::Nothing),
@@ -319,10 +332,7 @@ fn declared_text(encodings: &Table<Encoding>, bytes: &[u8], at: usize) -> Result
     };
     for i in at..bytes.len() {
         if seen.question && bytes[i] == b'>' {
-            return match head_end(encodings, bytes, i, &seen) {
-                Ok(head) => Ok(head),
-                Err(fault) => Err(fault),
-            };
+            return head_end(encodings, bytes, i, &seen);
         }
         seen = next_seen(bytes, seen, i);
         if !lives(encodings, bytes, i + 1, &seen) {
@@ -332,21 +342,25 @@ fn declared_text(encodings: &Table<Encoding>, bytes: &[u8], at: usize) -> Result
     Err(bad_text(bytes.len()))
 }
 
-/// A declaration, behind `<?xml` and a white space.
+/// A declaration, after `<?xml` and a white space.
 fn declared(encodings: &Table<Encoding>, bytes: &[u8], at: usize) -> Result<Head, TextErr>
     requires within { at ≤ length bytes.now }
     requires table { encodings.now ≡ encoding_rows }
     ensures forth { IfOk result (λ head. at ≤ head.at) }
     ensures past { IfOk result (λ head. head.at ≤ length bytes.now) }
-    ensures ok { IfOk result (λ head. (space : ℕ) → unless_unknown (unknown_from 0 (seeking Seek.Nothing) false (drop at bytes.now) at) (reading_verdict (in_declaration space [] nothing_told) (drop at bytes.now) at) ≡ verdict head.encoding (between None) (drop head.at bytes.now) head.at) }
-    ensures err { IfErr result (λ fault. (space : ℕ) → unless_unknown (unknown_from 0 (seeking Seek.Nothing) false (drop at bytes.now) at) (reading_verdict (in_declaration space [] nothing_told) (drop at bytes.now) at) ≡ Err fault) }
+    ensures ok { IfOk result
+        (λ head. (space : ℕ)
+        → unless_unknown (unknown_from 0 (seeking Seek.Nothing) false (drop at bytes.now) at)
+        (reading_verdict (in_declaration space [] nothing_told) (drop at bytes.now) at)
+        ≡ verdict head.encoding (between None) (drop head.at bytes.now) head.at) }
+    ensures err { IfErr result
+        (λ fault. (space : ℕ)
+        → unless_unknown (unknown_from 0 (seeking Seek.Nothing) false (drop at bytes.now) at)
+        (reading_verdict (in_declaration space [] nothing_told) (drop at bytes.now) at) ≡ Err fault) }
 {
     match unknown(encodings, bytes, at) {
         Some(place) => Err(TextErr::UnknownEncoding(place as u64)),
-        None => match declared_text(encodings, bytes, at) {
-            Ok(head) => Ok(head),
-            Err(fault) => Err(fault),
-        },
+        None => declared_text(encodings, bytes, at),
     }
 }
 
@@ -363,19 +377,21 @@ fn is_declared(bytes: &[u8], at: usize) -> bool
     space_at(bytes, at + 5)
 }
 
-/// What stands behind the byte-order mark, or at the start.
-fn behind_mark(encodings: &Table<Encoding>, bytes: &[u8], at: usize) -> Result<Head, TextErr>
+/// What stands after the byte-order mark, or at the start.
+fn after_mark(encodings: &Table<Encoding>, bytes: &[u8], at: usize) -> Result<Head, TextErr>
     requires within { at ≤ length bytes.now }
     requires table { encodings.now ≡ encoding_rows }
     ensures past { IfOk result (λ head. head.at ≤ length bytes.now) }
-    ensures ok { IfOk result (λ head. unless_unknown (unknown_behind at (drop at bytes.now)) (reading_verdict (starting at_start) (drop at bytes.now) at) ≡ verdict head.encoding (between None) (drop head.at bytes.now) head.at) }
-    ensures err { IfErr result (λ fault. unless_unknown (unknown_behind at (drop at bytes.now)) (reading_verdict (starting at_start) (drop at bytes.now) at) ≡ Err fault) }
+    ensures ok { IfOk result
+        (λ head. unless_unknown (unknown_after at (drop at bytes.now))
+        (reading_verdict (starting at_start) (drop at bytes.now) at)
+        ≡ verdict head.encoding (between None) (drop head.at bytes.now) head.at) }
+    ensures err { IfErr result
+        (λ fault. unless_unknown (unknown_after at (drop at bytes.now))
+        (reading_verdict (starting at_start) (drop at bytes.now) at) ≡ Err fault) }
 {
     if is_declared(bytes, at) {
-        match declared(encodings, bytes, at + 6) {
-            Ok(head) => Ok(head),
-            Err(fault) => Err(fault),
-        }
+        declared(encodings, bytes, at + 6)
     } else {
         Ok(Head {
             at,
@@ -388,14 +404,12 @@ fn behind_mark(encodings: &Table<Encoding>, bytes: &[u8], at: usize) -> Result<H
 pub(crate) fn read_head(encodings: &Table<Encoding>, bytes: &[u8]) -> Result<Head, TextErr>
     requires { encodings.now ≡ encoding_rows }
     ensures past { IfOk result (λ head. head.at ≤ length bytes.now) }
-    ensures ok { IfOk result (λ head. whole_verdict bytes.now ≡ verdict head.encoding (between None) (drop head.at bytes.now) head.at) }
+    ensures ok { IfOk result
+        (λ head. whole_verdict bytes.now ≡ verdict head.encoding (between None) (drop head.at bytes.now) head.at) }
     ensures err { IfErr result (λ fault. whole_verdict bytes.now ≡ Err fault) }
 {
     if !is_at(bytes, 0, 0xef) {
-        return match behind_mark(encodings, bytes, 0) {
-            Ok(head) => Ok(head),
-            Err(fault) => Err(fault),
-        };
+        return after_mark(encodings, bytes, 0);
     }
     if !is_at(bytes, 1, 0xbb) {
         return Err(bad_text(1));
@@ -403,8 +417,5 @@ pub(crate) fn read_head(encodings: &Table<Encoding>, bytes: &[u8]) -> Result<Hea
     if !is_at(bytes, 2, 0xbf) {
         return Err(bad_text(2));
     }
-    match behind_mark(encodings, bytes, 3) {
-        Ok(head) => Ok(head),
-        Err(fault) => Err(fault),
-    }
+    after_mark(encodings, bytes, 3)
 }

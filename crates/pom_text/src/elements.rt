@@ -1,9 +1,10 @@
+//! Start tags and end tags, and the elements that they open and close.
+
 ghost use Rattle.std.specs.Prelude.{◌≡◌, ◌+◌, ◌<◌, ◌≤◌, ℕ, List, [], true, false, length, take, drop, slice_range, slice_index, IfOk, IfErr, ◌⊎◌};
 ghost use Rattle.pom_grammar.specs.declared.encoding.Encoding.{Encoding};
-ghost use Rattle.pom_grammar.specs.declared.tree.TextErr.TheVariants.{NoMemory as OutOfMemory};
-ghost use Rattle.pom_grammar.specs.Characters.{is_name_start as start_test};
+ghost use Rattle.pom_grammar.specs.Characters.{is_name_start};
 ghost use Rattle.pom_grammar.specs.Encodings.{IsText};
-ghost use Rattle.pom_grammar.specs.Machine.{Frame as Reading, Place, in_end, opened, within, back, with_child, tree_of, fresh, may_open as room_test};
+ghost use Rattle.pom_grammar.specs.Machine.{OpenElement, OpenElements, in_end, opened, within, back, with_child, tree_of, fresh, may_open};
 ghost use Rattle.pom_text.specs.Scans.{Goes, Faults};
 ghost use Rattle.pom_text.specs.Views.{frame_view, open_view};
 
@@ -20,9 +21,9 @@ use std::alloc::Global;
 /// The fault of a start tag where no element may open.
 fn no_room(bytes: &[u8], at: usize, encoding: Encoding, stack: &Open) -> TextErr
     requires within { at < length bytes.now }
-    requires behind { 0 < at }
-    requires is_start { start_test (slice_index bytes.now at) ≡ true }
-    requires full { room_test (open_view stack.now) ≡ false }
+    requires after { 0 < at }
+    requires is_start { is_name_start (slice_index bytes.now at) ≡ true }
+    requires full { may_open (open_view stack.now) ≡ false }
     ensures { Faults encoding bytes.now (opened (open_view stack.now)) at result }
 {
     if stack.frames.is_empty() {
@@ -67,7 +68,7 @@ fn push_element(
     Ok(stack)
 }
 
-/// An element behind its start tag.
+/// An element after its start tag.
 fn open_element(
     alloc: Global,
     name: &[u8],
@@ -76,8 +77,10 @@ fn open_element(
     stack: Open,
 ) -> Result<Open, NoMemory>
     requires { IsText encoding name.now }
-    ensures empty { IfOk result (λ then. is_empty ≡ true → open_view then ≡ with_child (open_view stack) (tree_of (fresh encoding name.now))) }
-    ensures full { IfOk result (λ then. is_empty ≡ false → open_view then ≡ within (fresh encoding name.now) (open_view stack)) }
+    ensures empty { IfOk result
+        (λ then. is_empty ≡ true → open_view then ≡ with_child (open_view stack) (tree_of (fresh encoding name.now))) }
+    ensures full { IfOk result
+        (λ then. is_empty ≡ false → open_view then ≡ within (fresh encoding name.now) (open_view stack)) }
 {
     if is_empty {
         let tree = empty_element(alloc, name, encoding)?;
@@ -87,7 +90,7 @@ fn open_element(
     }
 }
 
-/// A start tag whose name begins here, and what is open behind it.
+/// A start tag whose name begins here, and what is open after it.
 pub(crate) fn start_tag(
     alloc: Global,
     bytes: &[u8],
@@ -96,12 +99,14 @@ pub(crate) fn start_tag(
     stack: Open,
 ) -> Result<Step, TextErr>
     requires within { at < length bytes.now }
-    requires behind { 0 < at }
-    requires is_start { start_test (slice_index bytes.now at) ≡ true }
+    requires after { 0 < at }
+    requires is_start { is_name_start (slice_index bytes.now at) ≡ true }
     ensures forth { IfOk result (λ next. at < next.at) }
     ensures past { IfOk result (λ next. next.at ≤ length bytes.now) }
-    ensures ok { IfOk result (λ next. Goes encoding bytes.now (opened (open_view stack)) at (back (open_view next.stack)) next.at) }
-    ensures err { IfErr result (λ fault. (fault ≡ OutOfMemory) ⊎ Faults encoding bytes.now (opened (open_view stack)) at fault) }
+    ensures ok { IfOk result
+        (λ next. Goes encoding bytes.now (opened (open_view stack)) at (back (open_view next.stack)) next.at) }
+    ensures err { IfErr result
+        (λ fault. (fault ≡ TextErr.NoMemory) ⊎ Faults encoding bytes.now (opened (open_view stack)) at fault) }
 {
     if !may_open(&stack) {
         return Err(no_room(bytes, at, encoding, &stack));
@@ -120,13 +125,17 @@ pub(crate) fn start_tag(
     }
 }
 
-/// The place behind the name of an end tag, which is that of the open element.
+/// The place after the name of an end tag, which is that of the open element.
 fn same_name(bytes: &[u8], at: usize, raw: &[u8]) -> Result<usize, TextErr>
     requires { at ≤ length bytes.now }
     ensures forth { IfOk result (λ end. at ≤ end) }
     ensures past { IfOk result (λ end. end ≤ length bytes.now) }
-    ensures ok { IfOk result (λ end. (e : Encoding) (frame : Reading) (outer : Place) → Goes e bytes.now (in_end [] raw.now frame outer) at (in_end raw.now [] frame outer) end) }
-    ensures err { IfErr result (λ fault. (e : Encoding) (frame : Reading) (outer : Place) → Faults e bytes.now (in_end [] raw.now frame outer) at fault) }
+    ensures ok { IfOk result
+        (λ end. (e : Encoding) (frame : OpenElement) (outer : OpenElements)
+        → Goes e bytes.now (in_end [] raw.now frame outer) at (in_end raw.now [] frame outer) end) }
+    ensures err { IfErr result
+        (λ fault. (e : Encoding) (frame : OpenElement) (outer : OpenElements)
+        → Faults e bytes.now (in_end [] raw.now frame outer) at fault) }
 {
     let mut i = at;
     for letter in raw {
@@ -138,13 +147,17 @@ fn same_name(bytes: &[u8], at: usize, raw: &[u8]) -> Result<usize, TextErr>
     Ok(i)
 }
 
-/// The place behind an end tag, from its name on.
+/// The place after an end tag, from its name on.
 fn end_of_tag(bytes: &[u8], at: usize, raw: &[u8]) -> Result<usize, TextErr>
     requires { at ≤ length bytes.now }
     ensures forth { IfOk result (λ end. at < end) }
     ensures past { IfOk result (λ end. end ≤ length bytes.now) }
-    ensures ok { IfOk result (λ end. (e : Encoding) (frame : Reading) (outer : Place) → Goes e bytes.now (in_end [] raw.now frame outer) at (back (with_child outer (tree_of frame))) end) }
-    ensures err { IfErr result (λ fault. (e : Encoding) (frame : Reading) (outer : Place) → Faults e bytes.now (in_end [] raw.now frame outer) at fault) }
+    ensures ok { IfOk result
+        (λ end. (e : Encoding) (frame : OpenElement) (outer : OpenElements)
+        → Goes e bytes.now (in_end [] raw.now frame outer) at (back (with_child outer (tree_of frame))) end) }
+    ensures err { IfErr result
+        (λ fault. (e : Encoding) (frame : OpenElement) (outer : OpenElements)
+        → Faults e bytes.now (in_end [] raw.now frame outer) at fault) }
 {
     let name = match same_name(bytes, at, raw) {
         Ok(end) => end,
@@ -180,8 +193,10 @@ pub(crate) fn end_tag(
     requires is_slash { slice_index bytes.now at ≡ 47 }
     ensures forth { IfOk result (λ next. at < next.at) }
     ensures past { IfOk result (λ next. next.at ≤ length bytes.now) }
-    ensures ok { IfOk result (λ next. Goes encoding bytes.now (opened (open_view stack)) at (back (open_view next.stack)) next.at) }
-    ensures err { IfErr result (λ fault. (fault ≡ OutOfMemory) ⊎ Faults encoding bytes.now (opened (open_view stack)) at fault) }
+    ensures ok { IfOk result
+        (λ next. Goes encoding bytes.now (opened (open_view stack)) at (back (open_view next.stack)) next.at) }
+    ensures err { IfErr result
+        (λ fault. (fault ≡ TextErr.NoMemory) ⊎ Faults encoding bytes.now (opened (open_view stack)) at fault) }
 {
     let frame = match stack.frames.pop() {
         Some(frame) => frame,

@@ -1,8 +1,9 @@
+//! The parts of a document: characters, comments, instructions, CDATA sections and tags.
+
 ghost use Rattle.std.specs.Prelude.{◌≡◌, ◌+◌, ◌-◌, ◌<◌, ◌≤◌, [], true, false, length, drop, slice_index, IfOk, IfErr, ◌⊎◌};
-ghost use Rattle.pom_grammar.specs.declared.tree.TextErr.TheVariants.{NoMemory as OutOfMemory};
-ghost use Rattle.pom_grammar.specs.Machine.{Place, within as inside, opened, bang, back, with_text};
+ghost use Rattle.pom_grammar.specs.Machine.{OpenElements, within, opened, bang, back, with_text};
 ghost use Rattle.pom_grammar.specs.Encodings.{IsText, utf8_of};
-ghost use Rattle.pom_grammar.specs.References.{entities as entity_rows, expanded};
+ghost use Rattle.pom_grammar.specs.References.{entity_rows, expanded};
 ghost use Rattle.pom_text.specs.Scans.{Goes, Faults};
 ghost use Rattle.pom_text.specs.Views.{frame_view, open_view, doctype_test};
 
@@ -25,7 +26,9 @@ fn add_cdata(
     mut stack: Open,
 ) -> Result<Open, NoMemory>
     requires { IsText encoding bytes.now }
-    ensures { IfOk result (λ then. open_view then ≡ inside (with_text (frame_view frame) (utf8_of encoding bytes.now)) (open_view stack)) }
+    ensures { IfOk result
+        (λ then. open_view then
+        ≡ within (with_text (frame_view frame) (utf8_of encoding bytes.now)) (open_view stack)) }
 {
     add_plain(&mut frame.text, bytes, encoding)?;
     stack.frames.push(frame)?;
@@ -38,8 +41,10 @@ fn cdata(bytes: &[u8], at: usize, encoding: Encoding, mut stack: Open) -> Result
     requires is_bracket { slice_index bytes.now at ≡ 91 }
     ensures forth { IfOk result (λ next. at < next.at) }
     ensures past { IfOk result (λ next. next.at ≤ length bytes.now) }
-    ensures ok { IfOk result (λ next. Goes encoding bytes.now (bang (open_view stack)) at (back (open_view next.stack)) next.at) }
-    ensures err { IfErr result (λ fault. (fault ≡ OutOfMemory) ⊎ Faults encoding bytes.now (bang (open_view stack)) at fault) }
+    ensures ok { IfOk result
+        (λ next. Goes encoding bytes.now (bang (open_view stack)) at (back (open_view next.stack)) next.at) }
+    ensures err { IfErr result
+        (λ fault. (fault ≡ TextErr.NoMemory) ⊎ Faults encoding bytes.now (bang (open_view stack)) at fault) }
 {
     let frame = match stack.frames.pop() {
         Some(frame) => frame,
@@ -59,7 +64,7 @@ fn cdata(bytes: &[u8], at: usize, encoding: Encoding, mut stack: Open) -> Result
     }
 }
 
-/// Whether a document type is declared, behind `<!`.
+/// Whether a document type is declared, after `<!`.
 fn is_doctype(bytes: &[u8], at: usize, stack: &Open) -> bool
     requires { at ≤ length bytes.now }
     ensures { result ≡ doctype_test (open_view stack.now) (drop at bytes.now) }
@@ -79,36 +84,33 @@ fn comment(bytes: &[u8], at: usize, encoding: Encoding) -> Result<usize, TextErr
     requires is_dash { slice_index bytes.now at ≡ 45 }
     ensures forth { IfOk result (λ end. at < end) }
     ensures past { IfOk result (λ end. end ≤ length bytes.now) }
-    ensures ok { IfOk result (λ end. (place : Place) → Goes encoding bytes.now (bang place) at (back place) end) }
-    ensures err { IfErr result (λ fault. (place : Place) → Faults encoding bytes.now (bang place) at fault) }
+    ensures ok { IfOk result
+        (λ end. (place : OpenElements) → Goes encoding bytes.now (bang place) at (back place) end) }
+    ensures err { IfErr result (λ fault. (place : OpenElements) → Faults encoding bytes.now (bang place) at fault) }
 {
     if !is_at(bytes, at + 1, b'-') {
         return Err(bad_text(at + 1));
     }
-    match mark_end(bytes, at + 2, encoding, b'-', 2) {
-        Ok(end) => Ok(end),
-        Err(fault) => Err(fault),
-    }
+    mark_end(bytes, at + 2, encoding, b'-', 2)
 }
 
 /// What begins with `<!`, whose second byte stands here.
 fn declared(bytes: &[u8], at: usize, encoding: Encoding, stack: Open) -> Result<Step, TextErr>
     requires within { at < length bytes.now }
-    requires behind { 0 < at }
+    requires after { 0 < at }
     requires is_bang { slice_index bytes.now at ≡ 33 }
     ensures forth { IfOk result (λ next. at < next.at) }
     ensures past { IfOk result (λ next. next.at ≤ length bytes.now) }
-    ensures ok { IfOk result (λ next. Goes encoding bytes.now (opened (open_view stack)) at (back (open_view next.stack)) next.at) }
-    ensures err { IfErr result (λ fault. (fault ≡ OutOfMemory) ⊎ Faults encoding bytes.now (opened (open_view stack)) at fault) }
+    ensures ok { IfOk result
+        (λ next. Goes encoding bytes.now (opened (open_view stack)) at (back (open_view next.stack)) next.at) }
+    ensures err { IfErr result
+        (λ fault. (fault ≡ TextErr.NoMemory) ⊎ Faults encoding bytes.now (opened (open_view stack)) at fault) }
 {
     if is_doctype(bytes, at + 1, &stack) {
         return Err(TextErr::Doctype(at as u64 - 1));
     }
     if is_at(bytes, at + 1, b'[') {
-        return match cdata(bytes, at + 1, encoding, stack) {
-            Ok(next) => Ok(next),
-            Err(fault) => Err(fault),
-        };
+        return cdata(bytes, at + 1, encoding, stack);
     }
     if !is_at(bytes, at + 1, b'-') {
         return Err(bad_text(at + 1));
@@ -125,8 +127,10 @@ fn instruction(bytes: &[u8], at: usize, encoding: Encoding, stack: Open) -> Resu
     requires is_question { slice_index bytes.now at ≡ 63 }
     ensures forth { IfOk result (λ next. at < next.at) }
     ensures past { IfOk result (λ next. next.at ≤ length bytes.now) }
-    ensures ok { IfOk result (λ next. Goes encoding bytes.now (opened (open_view stack)) at (back (open_view next.stack)) next.at) }
-    ensures err { IfErr result (λ fault. (fault ≡ OutOfMemory) ⊎ Faults encoding bytes.now (opened (open_view stack)) at fault) }
+    ensures ok { IfOk result
+        (λ next. Goes encoding bytes.now (opened (open_view stack)) at (back (open_view next.stack)) next.at) }
+    ensures err { IfErr result
+        (λ fault. (fault ≡ TextErr.NoMemory) ⊎ Faults encoding bytes.now (opened (open_view stack)) at fault) }
 {
     match mark_end(bytes, at + 1, encoding, b'?', 1) {
         Ok(end) => Ok(Step { at: end, stack }),
@@ -134,7 +138,7 @@ fn instruction(bytes: &[u8], at: usize, encoding: Encoding, stack: Open) -> Resu
     }
 }
 
-/// What begins with a bracket, behind that.
+/// What begins with a bracket, after that.
 fn markup(
     alloc: Global,
     bytes: &[u8],
@@ -143,11 +147,13 @@ fn markup(
     stack: Open,
 ) -> Result<Step, TextErr>
     requires within { at ≤ length bytes.now }
-    requires behind { 0 < at }
+    requires after { 0 < at }
     ensures forth { IfOk result (λ next. at < next.at) }
     ensures past { IfOk result (λ next. next.at ≤ length bytes.now) }
-    ensures ok { IfOk result (λ next. Goes encoding bytes.now (opened (open_view stack)) at (back (open_view next.stack)) next.at) }
-    ensures err { IfErr result (λ fault. (fault ≡ OutOfMemory) ⊎ Faults encoding bytes.now (opened (open_view stack)) at fault) }
+    ensures ok { IfOk result
+        (λ next. Goes encoding bytes.now (opened (open_view stack)) at (back (open_view next.stack)) next.at) }
+    ensures err { IfErr result
+        (λ fault. (fault ≡ TextErr.NoMemory) ⊎ Faults encoding bytes.now (opened (open_view stack)) at fault) }
 {
     if is_at(bytes, at, b'/') {
         return end_tag(bytes, at, encoding, stack);
@@ -164,7 +170,7 @@ fn markup(
     Err(bad_text(at))
 }
 
-/// White space at the top, and what stands behind it.
+/// White space at the top, and what stands after it.
 fn top_part(
     alloc: Global,
     bytes: &[u8],
@@ -176,15 +182,14 @@ fn top_part(
     requires at_top { stack.frames ≡ [] }
     ensures forth { IfOk result (λ next. at < next.at) }
     ensures past { IfOk result (λ next. next.at ≤ length bytes.now) }
-    ensures ok { IfOk result (λ next. Goes encoding bytes.now (back (open_view stack)) at (back (open_view next.stack)) next.at) }
-    ensures err { IfErr result (λ fault. (fault ≡ OutOfMemory) ⊎ Faults encoding bytes.now (back (open_view stack)) at fault) }
+    ensures ok { IfOk result
+        (λ next. Goes encoding bytes.now (back (open_view stack)) at (back (open_view next.stack)) next.at) }
+    ensures err { IfErr result
+        (λ fault. (fault ≡ TextErr.NoMemory) ⊎ Faults encoding bytes.now (back (open_view stack)) at fault) }
 {
     let end = space_end(bytes, at);
     if is_at(bytes, end, b'<') {
-        return match markup(alloc, bytes, end + 1, encoding, stack) {
-            Ok(next) => Ok(next),
-            Err(fault) => Err(fault),
-        };
+        return markup(alloc, bytes, end + 1, encoding, stack);
     }
     if end < bytes.len() {
         return Err(bad_text(end));
@@ -202,14 +207,15 @@ fn add_text(
 ) -> Result<Open, NoMemory>
     requires is_text { IsText encoding run.now }
     requires table { entities.now ≡ entity_rows }
-    ensures { IfOk result (λ then. open_view then ≡ inside (with_text (frame_view frame) (expanded encoding run.now)) (open_view stack)) }
+    ensures { IfOk result
+        (λ then. open_view then ≡ within (with_text (frame_view frame) (expanded encoding run.now)) (open_view stack)) }
 {
     add_run(entities, &mut frame.text, run, encoding)?;
     stack.frames.push(frame)?;
     Ok(stack)
 }
 
-/// Characters in an element, and what stands behind them.
+/// Characters in an element, and what stands after them.
 fn inner_part(
     alloc: Global,
     entities: &Table<char>,
@@ -223,8 +229,12 @@ fn inner_part(
     requires table { entities.now ≡ entity_rows }
     ensures forth { IfOk result (λ next. at < next.at) }
     ensures past { IfOk result (λ next. next.at ≤ length bytes.now) }
-    ensures ok { IfOk result (λ next. Goes encoding bytes.now (back (inside (frame_view frame) (open_view stack))) at (back (open_view next.stack)) next.at) }
-    ensures err { IfErr result (λ fault. (fault ≡ OutOfMemory) ⊎ Faults encoding bytes.now (back (inside (frame_view frame) (open_view stack))) at fault) }
+    ensures ok { IfOk result
+        (λ next. Goes encoding bytes.now (back (within (frame_view frame) (open_view stack))) at
+        (back (open_view next.stack)) next.at) }
+    ensures err { IfErr result
+        (λ fault. (fault ≡ TextErr.NoMemory)
+        ⊎ Faults encoding bytes.now (back (within (frame_view frame) (open_view stack))) at fault) }
 {
     let end = match text_end(bytes, at, encoding) {
         Ok(end) => end,
@@ -234,13 +244,10 @@ fn inner_part(
         Ok(then) => then,
         Err(_) => return Err(TextErr::NoMemory),
     };
-    match markup(alloc, bytes, end + 1, encoding, then) {
-        Ok(next) => Ok(next),
-        Err(fault) => Err(fault),
-    }
+    markup(alloc, bytes, end + 1, encoding, then)
 }
 
-/// A run of characters and what stands behind it.
+/// A run of characters and what stands after it.
 pub(crate) fn part(
     alloc: Global,
     entities: &Table<char>,
@@ -253,17 +260,13 @@ pub(crate) fn part(
     requires table { entities.now ≡ entity_rows }
     ensures forth { IfOk result (λ next. at < next.at) }
     ensures past { IfOk result (λ next. next.at ≤ length bytes.now) }
-    ensures ok { IfOk result (λ next. Goes encoding bytes.now (back (open_view stack)) at (back (open_view next.stack)) next.at) }
-    ensures err { IfErr result (λ fault. (fault ≡ OutOfMemory) ⊎ Faults encoding bytes.now (back (open_view stack)) at fault) }
+    ensures ok { IfOk result
+        (λ next. Goes encoding bytes.now (back (open_view stack)) at (back (open_view next.stack)) next.at) }
+    ensures err { IfErr result
+        (λ fault. (fault ≡ TextErr.NoMemory) ⊎ Faults encoding bytes.now (back (open_view stack)) at fault) }
 {
     match stack.frames.pop() {
-        None => match top_part(alloc, bytes, at, encoding, stack) {
-            Ok(next) => Ok(next),
-            Err(fault) => Err(fault),
-        },
-        Some(frame) => match inner_part(alloc, entities, bytes, at, encoding, frame, stack) {
-            Ok(next) => Ok(next),
-            Err(fault) => Err(fault),
-        },
+        None => top_part(alloc, bytes, at, encoding, stack),
+        Some(frame) => inner_part(alloc, entities, bytes, at, encoding, frame, stack),
     }
 }

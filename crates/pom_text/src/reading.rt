@@ -1,7 +1,8 @@
+//! The reader of documents.
+
 ghost use Rattle.std.specs.Prelude.{◌≡◌, ◌⊎◌, List, Ok, Err, IfOk, IfErr};
-ghost use Rattle.pom_grammar.specs.declared.tree.TextErr.TheVariants.{NoMemory as OutOfMemory};
-ghost use Rattle.pom_grammar.specs.Declarations.{encodings as encoding_rows};
-ghost use Rattle.pom_grammar.specs.References.{entities as entity_rows};
+ghost use Rattle.pom_grammar.specs.Declarations.{encoding_rows};
+ghost use Rattle.pom_grammar.specs.References.{entity_rows};
 ghost use Rattle.pom_grammar.specs.Faults.{Says};
 ghost use Rattle.pom_grammar.specs.Machine.{back, outcome};
 ghost use Rattle.pom_grammar.specs.Verdicts.{ended, whole_verdict};
@@ -12,7 +13,7 @@ use crate::markup::part;
 use crate::tables::{encoding_table, entity_table};
 use crate::tree::{Open, bad_text};
 use case_table::Table;
-use pom_grammar::{Encoding, TextErr, Tree};
+use pom_grammar::{Encoding, TextErr, Tree, verdict_says};
 use res_base::List;
 use std::alloc::Global;
 
@@ -31,7 +32,7 @@ fn finish(end: usize, stack: Open) -> Result<Tree, TextErr>
     }
 }
 
-/// What is answered for a text, by the two tables, unless the memory ends.
+/// What is answered for a text, by the two tables, unless memory runs out.
 fn read_with(
     alloc: Global,
     encodings: &Table<Encoding>,
@@ -41,7 +42,7 @@ fn read_with(
     requires encodings { encodings.now ≡ encoding_rows }
     requires entities { entities.now ≡ entity_rows }
     ensures ok { IfOk result (λ tree. whole_verdict bytes.now ≡ Ok tree) }
-    ensures err { IfErr result (λ fault. (fault ≡ OutOfMemory) ⊎ (whole_verdict bytes.now ≡ Err fault)) }
+    ensures err { IfErr result (λ fault. (fault ≡ TextErr.NoMemory) ⊎ (whole_verdict bytes.now ≡ Err fault)) }
 {
     let head = match read_head(encodings, bytes) {
         Ok(head) => head,
@@ -61,16 +62,13 @@ fn read_with(
         at = next.at;
         stack = next.stack;
     }
-    match finish(at, stack) {
-        Ok(tree) => Ok(tree),
-        Err(fault) => Err(fault),
-    }
+    finish(at, stack)
 }
 
-/// What is answered for a text, unless the memory ends.
+/// What is answered for a text, unless memory runs out.
 fn read(alloc: Global, bytes: &[u8]) -> Result<Tree, TextErr>
     ensures ok { IfOk result (λ tree. whole_verdict bytes.now ≡ Ok tree) }
-    ensures err { IfErr result (λ fault. (fault ≡ OutOfMemory) ⊎ (whole_verdict bytes.now ≡ Err fault)) }
+    ensures err { IfErr result (λ fault. (fault ≡ TextErr.NoMemory) ⊎ (whole_verdict bytes.now ≡ Err fault)) }
 {
     let encodings = match encoding_table(alloc) {
         Ok(table) => table,
@@ -80,18 +78,18 @@ fn read(alloc: Global, bytes: &[u8]) -> Result<Tree, TextErr>
         Ok(table) => table,
         Err(_) => return Err(TextErr::NoMemory),
     };
-    match read_with(alloc, &encodings, &entities, bytes) {
-        Ok(tree) => Ok(tree),
-        Err(fault) => Err(fault),
-    }
+    read_with(alloc, &encodings, &entities, bytes)
 }
 
 /// The tree of a document, or the first fault of a text that is none.
+///
+/// The grammar is that of `pom_grammar`: a part of XML 1.0 without document types, of at most 64
+/// levels, in UTF-8, ASCII or ISO-8859-1. A fault has its place in bytes from the start.
 pub fn read_tree(alloc: Global, bytes: &[u8]) -> Result<Tree, TextErr>
-    ensures { Says bytes.now result }
+    ensures says { Says bytes.now result }
+    ensures read { IfOk result (λ tree. whole_verdict bytes.now ≡ Ok tree) }
+    ensures refused { IfErr result (λ fault. (fault ≡ TextErr.NoMemory) ⊎ (whole_verdict bytes.now ≡ Err fault)) }
 {
-    match read(alloc, bytes) {
-        Ok(tree) => Ok(tree),
-        Err(fault) => Err(fault),
-    }
+    verdict_says();
+    read(alloc, bytes)
 }

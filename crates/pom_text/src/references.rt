@@ -1,15 +1,18 @@
+//! Runs of characters with their references put in, and white space at the ends of texts.
+
 ghost use Rattle.std.specs.Prelude.{◌≡◌, ◌++◌, ◌+◌, ◌<◌, ◌≤◌, ◌^◌, ℕ, true, false, length, take, drop, slice_range, slice_index, IfOk, OnOk, encode_utf8, Some, None};
+ghost use Rattle.ascii_bytes.specs.Classes.{is_white};
 ghost use Rattle.pom_grammar.specs.declared.encoding.Encoding.{Encoding};
-ghost use Rattle.pom_grammar.specs.Characters.{cut_space, is_space as space_test};
+ghost use Rattle.pom_grammar.specs.Characters.{cut_space};
 ghost use Rattle.pom_grammar.specs.Encodings.{IsText, utf8_of};
-ghost use Rattle.pom_grammar.specs.References.{digit_of as digit_spec, number_from, entities as entity_rows, named as named_spec, reference, numbered as number_spec, expanded};
+ghost use Rattle.pom_grammar.specs.References.{digit_of, number_from, entity_rows, named, reference, numbered, expanded};
 ghost use Rattle.pom_grammar.specs.Machine.{join};
 ghost use Rattle.pom_text.specs.Texts.{meaning_of, has_no_ampersand, number_meaning};
 
-use crate::characters::is_space;
 use crate::scans::{is_at, space_end};
 use crate::tables::entity;
 use crate::texts::{push_char, push_plain};
+use ascii_bytes::is_white;
 use case_table::Table;
 use pom_grammar::Encoding;
 use res_base::{NoMemory, Text};
@@ -22,7 +25,7 @@ struct Found {
 }
 
 fn digit_of(hex: bool, byte: u8) -> Option<u32>
-    ensures { result ≡ digit_spec hex byte }
+    ensures { result ≡ digit_of hex byte }
 {
     if b'0' <= byte && byte <= b'9' {
         Some((byte - b'0') as u32)
@@ -37,7 +40,7 @@ fn digit_of(hex: bool, byte: u8) -> Option<u32>
 
 const TOO_LARGE: u32 = 0x11_0000;
 
-/// What a number means that ends behind so many bytes.
+/// What a number means that ends after so many bytes.
 fn number_end(value: u32, len: usize) -> Option<Found>
     requires { len < 2 ^ 63 }
     ensures { meaning_of result ≡ number_meaning value len }
@@ -52,7 +55,7 @@ fn number_end(value: u32, len: usize) -> Option<Found>
 }
 
 /// Digits from a place on, at least one, and a semicolon.
-fn numbered(text: &[u8], start: usize, hex: bool) -> Option<Found>
+fn digits_from(text: &[u8], start: usize, hex: bool) -> Option<Found>
     requires { start ≤ length text.now }
     ensures { meaning_of result ≡ number_from hex false start 0 (drop start text.now) }
 {
@@ -76,16 +79,16 @@ fn numbered(text: &[u8], start: usize, hex: bool) -> Option<Found>
     None
 }
 
-fn number(text: &[u8]) -> Option<Found>
-    ensures { meaning_of result ≡ number_spec text.now }
+fn numbered(text: &[u8]) -> Option<Found>
+    ensures { meaning_of result ≡ numbered text.now }
 {
     if text.is_empty() || text[0] != b'#' {
         return None;
     }
     if 1 < text.len() && text[1] == b'x' {
-        numbered(text, 2, true)
+        digits_from(text, 2, true)
     } else {
-        numbered(text, 1, false)
+        digits_from(text, 1, false)
     }
 }
 
@@ -106,10 +109,10 @@ fn semicolon(text: &[u8]) -> usize
     text.len()
 }
 
-/// The named entity that begins behind a `&`.
+/// The named entity that begins after a `&`.
 fn named(entities: &Table<char>, text: &[u8]) -> Option<Found>
     requires { entities.now ≡ entity_rows }
-    ensures { meaning_of result ≡ named_spec text.now }
+    ensures { meaning_of result ≡ named text.now }
 {
     let len = semicolon(text);
     if !is_at(text, len, b';') {
@@ -121,19 +124,19 @@ fn named(entities: &Table<char>, text: &[u8]) -> Option<Found>
     }
 }
 
-/// The reference that begins behind a `&`.
+/// The reference that begins after a `&`.
 fn reference_at(entities: &Table<char>, text: &[u8]) -> Option<Found>
     requires { entities.now ≡ entity_rows }
     ensures { meaning_of result ≡ reference text.now }
 {
     match named(entities, text) {
         Some(found) => Some(found),
-        None => number(text),
+        None => numbered(text),
     }
 }
 
-fn is_space_char(char: char) -> bool
-    ensures { result ≡ space_test char }
+fn is_white_char(char: char) -> bool
+    ensures { result ≡ is_white char }
 {
     char == ' ' || char == '\t' || char == '\r' || char == '\n'
 }
@@ -142,7 +145,7 @@ fn is_space_char(char: char) -> bool
 fn add_char(text: &mut Text, char: char) -> Result<(), NoMemory>
     ensures { OnOk result (text.new ≡ join text.old (encode_utf8 char)) }
 {
-    if text.is_empty() && is_space_char(char) {
+    if text.is_empty() && is_white_char(char) {
         return Ok(());
     }
     push_char(text, char)
@@ -177,7 +180,7 @@ fn ampersand(run: &[u8], from: usize) -> usize
     run.len()
 }
 
-/// What stands at a `&`: its character, and the place behind it.
+/// What stands at a `&`: its character, and the place after it.
 fn add_reference(
     entities: &Table<char>,
     text: &mut Text,
@@ -190,7 +193,9 @@ fn add_reference(
     ensures forth { IfOk result (λ next. at < next) }
     ensures past { IfOk result (λ next. next ≤ length run.now) }
     ensures is_text { IfOk result (λ next. (e : Encoding) → IsText e (drop at run.now) → IsText e (drop next run.now)) }
-    ensures ok { IfOk result (λ next. (e : Encoding) → join text.old (expanded e (drop at run.now)) ≡ join text.new (expanded e (drop next run.now))) }
+    ensures ok { IfOk result
+        (λ next. (e : Encoding)
+        → join text.old (expanded e (drop at run.now)) ≡ join text.new (expanded e (drop next run.now))) }
 {
     match reference_at(entities, &run[at + 1..]) {
         Some(found) => {
@@ -234,7 +239,7 @@ fn cut_len(bytes: &[u8]) -> usize
     ensures spaces { result < length bytes.now → slice_index bytes.now result < 128 }
 {
     let mut end = bytes.len();
-    while 0 < end && is_space(bytes[end - 1]) {
+    while 0 < end && is_white(bytes[end - 1]) {
         end -= 1;
     }
     end

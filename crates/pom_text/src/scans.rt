@@ -1,30 +1,35 @@
+//! Scans over bytes, each up to what ends it.
+
 ghost use Rattle.std.specs.Prelude.{◌≡◌, ◌+◌, ◌-◌, ◌<◌, ◌≤◌, ℕ, List, [], ◌∷◌, IfOk, IfErr, IsTrue, true, false, length, slice_index, slice_range, drop};
-ghost use Rattle.pom_grammar.specs.Characters.{is_space as space_test, is_high, is_name_byte as name_test, is_name_start as start_test, every, onto};
+ghost use Rattle.std.specs.List.{list_all};
+ghost use Rattle.ascii_bytes.specs.Classes.{is_white};
+ghost use Rattle.pom_grammar.specs.Characters.{is_high, is_name_byte, is_name_start, onto};
 ghost use Rattle.pom_grammar.specs.Document.{Quote, quote_byte, Mark, backward};
-ghost use Rattle.pom_grammar.specs.Machine.{Frame, Kind, in_run, in_quotes, in_marks, Place, within as inside, in_segment, back, with_text};
+ghost use Rattle.pom_grammar.specs.Machine.{OpenElement, Kind, in_run, in_quotes, in_marks, OpenElements, within, in_segment, back, with_text};
 ghost use Rattle.pom_grammar.specs.Verdicts.{verdict};
 ghost use Rattle.pom_grammar.specs.Characters.{begins_with};
 ghost use Rattle.pom_grammar.specs.Encodings.{IsText, utf8_of};
 ghost use Rattle.pom_grammar.specs.declared.encoding.Encoding.{Encoding};
-ghost use Rattle.pom_text.specs.Scans.{Goes, Faults, Runs, Breaks, IsNaming, is_whole as whole_test, sign_of, least_of, marked_verdict, cdata_state};
+ghost use Rattle.pom_text.specs.Scans.{Goes, Faults, Runs, Breaks, IsNaming, is_whole, sign_of, least_of, marked_verdict, cdata_state};
 
-use crate::characters::{is_name_byte, is_name_start, is_space};
+use crate::characters::{is_name_byte, is_name_start};
 use crate::encoding::next_tail;
 use crate::tree::bad_text;
+use ascii_bytes::{White, class_end, is_white};
 use pom_grammar::{Encoding, Tail, TextErr};
 
 fn is_whole(tail: Tail) -> bool
-    ensures { result ≡ whole_test tail }
+    ensures { result ≡ is_whole tail }
 {
     matches!(tail, Tail::Whole)
 }
 
-/// The place behind the character that begins at a place, or where it breaks.
+/// The place after the character that begins at a place, or where it breaks.
 fn char_end(bytes: &[u8], at: usize, encoding: Encoding) -> Result<usize, TextErr>
     requires within { at < length bytes.now }
     requires high { is_high (slice_index bytes.now at) ≡ true }
     ensures forth { IfOk result (λ end. at < end) }
-    ensures past_ascii { IfOk result (λ end. every is_high (slice_range bytes.now at end) ≡ true) }
+    ensures past_ascii { IfOk result (λ end. list_all is_high (slice_range bytes.now at end) ≡ true) }
     ensures ok { IfOk result (λ end. (kind : Kind) → Runs encoding bytes.now kind at end) }
     ensures err { IfErr result (λ fault. (kind : Kind) → Breaks encoding bytes.now kind at fault) }
 {
@@ -46,15 +51,10 @@ pub(crate) fn space_end(bytes: &[u8], at: usize) -> usize
     requires { at ≤ length bytes.now }
     ensures forth { at ≤ result }
     ensures within { result ≤ length bytes.now }
-    ensures spaces { every space_test (slice_range bytes.now at result) ≡ true }
-    ensures ends { result < length bytes.now → space_test (slice_index bytes.now result) ≡ false }
+    ensures spaces { list_all is_white (slice_range bytes.now at result) ≡ true }
+    ensures ends { result < length bytes.now → is_white (slice_index bytes.now result) ≡ false }
 {
-    for i in at..bytes.len() {
-        if !is_space(bytes[i]) {
-            return i;
-        }
-    }
-    bytes.len()
+    class_end::<White>(bytes, at)
 }
 
 /// The first bracket from here on.
@@ -86,7 +86,7 @@ pub(crate) fn name_end(bytes: &[u8], at: usize, encoding: Encoding) -> Result<us
     ensures forth { IfOk result (λ end. at ≤ end) }
     ensures runs { IfOk result (λ end. (kind : Kind) → IsNaming kind → Runs encoding bytes.now kind at end) }
     ensures within { IfOk result (λ end. end < length bytes.now) }
-    ensures stops { IfOk result (λ end. name_test (slice_index bytes.now end) ≡ false) }
+    ensures stops { IfOk result (λ end. is_name_byte (slice_index bytes.now end) ≡ false) }
     ensures err { IfErr result (λ fault. (kind : Kind) → IsNaming kind → Breaks encoding bytes.now kind at fault) }
 {
     let mut i = at;
@@ -111,10 +111,14 @@ pub(crate) fn value_end(
     quote: u8,
 ) -> Result<usize, TextErr>
     requires { at ≤ length bytes.now }
-    ensures runs { IfOk result (λ end. (q : Quote) (name : List ℕ) → quote_byte q ≡ quote → Runs encoding bytes.now (in_quotes q name) at end) }
+    ensures runs { IfOk result
+        (λ end. (q : Quote) (name : List ℕ) → quote_byte q ≡ quote
+        → Runs encoding bytes.now (in_quotes q name) at end) }
     ensures within { IfOk result (λ end. end < length bytes.now) }
     ensures is_quote { IfOk result (λ end. slice_index bytes.now end ≡ quote) }
-    ensures err { IfErr result (λ fault. (q : Quote) (name : List ℕ) → quote_byte q ≡ quote → Breaks encoding bytes.now (in_quotes q name) at fault) }
+    ensures err { IfErr result
+        (λ fault. (q : Quote) (name : List ℕ) → quote_byte q ≡ quote
+        → Breaks encoding bytes.now (in_quotes q name) at fault) }
 {
     let mut i = at;
     while i < bytes.len() {
@@ -137,7 +141,7 @@ pub(crate) fn value_end(
     Err(bad_text(i))
 }
 
-/// The place behind the first run of so many marks and `>`.
+/// The place after the first run of so many marks and `>`.
 pub(crate) fn mark_end(
     bytes: &[u8],
     at: usize,
@@ -150,9 +154,16 @@ pub(crate) fn mark_end(
     ensures forth { IfOk result (λ end. at < end) }
     ensures within { IfOk result (λ end. end ≤ length bytes.now) }
     ensures is_text { IfOk result (λ end. IsText encoding (slice_range bytes.now at (end - 1))) }
-    ensures ok { IfOk result (λ end. (mark : Mark) (place : Place) → sign_of mark ≡ sign → least_of mark ≡ least → verdict encoding (in_segment (in_marks mark) place [] Tail.Whole) (drop at bytes.now) at ≡ marked_verdict encoding bytes.now mark place at end) }
-    ensures marks { IfOk result (λ end. (mark : Mark) → sign_of mark ≡ sign → least_of mark ≡ least → begins_with (backward mark) (62 ∷ onto (slice_range bytes.now at (end - 1)) []) ≡ true) }
-    ensures err { IfErr result (λ fault. (mark : Mark) (place : Place) → sign_of mark ≡ sign → least_of mark ≡ least → Faults encoding bytes.now (in_segment (in_marks mark) place [] Tail.Whole) at fault) }
+    ensures ok { IfOk result
+        (λ end. (mark : Mark) (place : OpenElements) → sign_of mark ≡ sign → least_of mark ≡ least
+        → verdict encoding (in_segment (in_marks mark) place [] Tail.Whole) (drop at bytes.now) at
+        ≡ marked_verdict encoding bytes.now mark place at end) }
+    ensures marks { IfOk result
+        (λ end. (mark : Mark) → sign_of mark ≡ sign → least_of mark ≡ least
+        → begins_with (backward mark) (62 ∷ onto (slice_range bytes.now at (end - 1)) []) ≡ true) }
+    ensures err { IfErr result
+        (λ fault. (mark : Mark) (place : OpenElements) → sign_of mark ≡ sign → least_of mark ≡ least
+        → Faults encoding bytes.now (in_segment (in_marks mark) place [] Tail.Whole) at fault) }
 {
     let mut count = 0;
     let mut i = at;
@@ -178,13 +189,17 @@ pub(crate) fn mark_end(
     Err(bad_text(i))
 }
 
-/// The place behind a literal that has to stand here.
+/// The place after a literal that has to stand here.
 pub(crate) fn literal_end(bytes: &[u8], at: usize, literal: &[u8]) -> Result<usize, TextErr>
     requires { at ≤ length bytes.now }
     ensures within { IfOk result (λ end. end ≤ length bytes.now) }
     ensures forth { IfOk result (λ end. at + length literal.now ≡ end) }
-    ensures ok { IfOk result (λ end. (e : Encoding) (frame : Frame) (outer : Place) → Goes e bytes.now (cdata_state literal.now frame outer) at (cdata_state [] frame outer) end) }
-    ensures err { IfErr result (λ fault. (e : Encoding) (frame : Frame) (outer : Place) → Faults e bytes.now (cdata_state literal.now frame outer) at fault) }
+    ensures ok { IfOk result
+        (λ end. (e : Encoding) (frame : OpenElement) (outer : OpenElements)
+        → Goes e bytes.now (cdata_state literal.now frame outer) at (cdata_state [] frame outer) end) }
+    ensures err { IfErr result
+        (λ fault. (e : Encoding) (frame : OpenElement) (outer : OpenElements)
+        → Faults e bytes.now (cdata_state literal.now frame outer) at fault) }
 {
     let mut i = at;
     for byte in literal {
@@ -228,8 +243,13 @@ pub(crate) fn cdata_end(bytes: &[u8], at: usize, encoding: Encoding) -> Result<u
     ensures forth { IfOk result (λ end. at ≤ end) }
     ensures within { IfOk result (λ end. end + 3 ≤ length bytes.now) }
     ensures is_text { IfOk result (λ end. IsText encoding (slice_range bytes.now at end)) }
-    ensures ok { IfOk result (λ end. (frame : Frame) (outer : Place) → Goes encoding bytes.now (cdata_state [] frame outer) at (back (inside (with_text frame (utf8_of encoding (slice_range bytes.now at end))) outer)) (end + 3)) }
-    ensures err { IfErr result (λ fault. (frame : Frame) (outer : Place) → Faults encoding bytes.now (cdata_state [] frame outer) at fault) }
+    ensures ok { IfOk result
+        (λ end. (frame : OpenElement) (outer : OpenElements)
+        → Goes encoding bytes.now (cdata_state [] frame outer) at
+        (back (within (with_text frame (utf8_of encoding (slice_range bytes.now at end))) outer)) (end + 3)) }
+    ensures err { IfErr result
+        (λ fault. (frame : OpenElement) (outer : OpenElements)
+        → Faults encoding bytes.now (cdata_state [] frame outer) at fault) }
 {
     match mark_end(bytes, at, encoding, b']', 2) {
         Ok(end) => Ok(end - 3),
@@ -240,8 +260,8 @@ pub(crate) fn cdata_end(bytes: &[u8], at: usize, encoding: Encoding) -> Result<u
 /// Whether a name begins here.
 pub(crate) fn is_name_at(bytes: &[u8], at: usize) -> bool
     ensures within { IsTrue result → at < length bytes.now }
-    ensures is_start { IsTrue result → start_test (slice_index bytes.now at) ≡ true }
-    ensures other { result ≡ false → at < length bytes.now → start_test (slice_index bytes.now at) ≡ false }
+    ensures is_start { IsTrue result → is_name_start (slice_index bytes.now at) ≡ true }
+    ensures other { result ≡ false → at < length bytes.now → is_name_start (slice_index bytes.now at) ≡ false }
 {
     at < bytes.len() && is_name_start(bytes[at])
 }
@@ -249,8 +269,8 @@ pub(crate) fn is_name_at(bytes: &[u8], at: usize) -> bool
 /// Whether white space stands here.
 pub(crate) fn space_at(bytes: &[u8], at: usize) -> bool
     ensures within { IsTrue result → at < length bytes.now }
-    ensures is_it { IsTrue result → space_test (slice_index bytes.now at) ≡ true }
-    ensures other { result ≡ false → at < length bytes.now → space_test (slice_index bytes.now at) ≡ false }
+    ensures is_it { IsTrue result → is_white (slice_index bytes.now at) ≡ true }
+    ensures other { result ≡ false → at < length bytes.now → is_white (slice_index bytes.now at) ≡ false }
 {
-    at < bytes.len() && is_space(bytes[at])
+    at < bytes.len() && is_white(bytes[at])
 }

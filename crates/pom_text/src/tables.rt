@@ -2,27 +2,18 @@
 
 ghost use Rattle.std.specs.Prelude.{◌≡◌, IfOk, IfErr};
 ghost use Rattle.case_table.specs.Rows.{value_at};
-ghost use Rattle.case_table.specs.declared.table.AddErr.TheVariants.{NoMemory as OutOfMemory};
-ghost use Rattle.pom_grammar.specs.Declarations.{encodings as encoding_rows, known as known_spec};
-ghost use Rattle.pom_grammar.specs.References.{entities as entity_rows};
+ghost use Rattle.pom_grammar.specs.Declarations.{encoding_rows, known};
+ghost use Rattle.pom_grammar.specs.References.{entity_rows};
 
-use case_table::{AddErr, Table};
+use case_table::{AddErr, Table, rows};
 use pom_grammar::Encoding;
 use res_base::NoMemory;
 use std::alloc::Global;
 use std::str;
 
-macro_rules! rows {
-    ($alloc:expr; $($name:literal => $value:expr),+ $(,)?) => {{
-        let mut table = Table::new($alloc);
-        $(table.add($alloc, $name, $value)?;)+
-        table
-    }};
-}
-
 fn encodings_of_rows(alloc: Global) -> Result<Table<Encoding>, AddErr>
     ensures value { IfOk result (λ table. table ≡ encoding_rows) }
-    ensures sorted { IfErr result (λ e. e ≡ OutOfMemory) }
+    ensures sorted { IfErr result (λ e. e ≡ AddErr.NoMemory) }
 {
     Ok(rows! {
         alloc;
@@ -37,7 +28,7 @@ fn encodings_of_rows(alloc: Global) -> Result<Table<Encoding>, AddErr>
 
 fn entities_of_rows(alloc: Global) -> Result<Table<char>, AddErr>
     ensures value { IfOk result (λ table. table ≡ entity_rows) }
-    ensures sorted { IfErr result (λ e. e ≡ OutOfMemory) }
+    ensures sorted { IfErr result (λ e. e ≡ AddErr.NoMemory) }
 {
     Ok(rows! {
         alloc;
@@ -49,7 +40,7 @@ fn entities_of_rows(alloc: Global) -> Result<Table<char>, AddErr>
     })
 }
 
-/// The encodings by their names in small letters.
+/// The encodings by their names in lower case.
 pub(crate) fn encoding_table(alloc: Global) -> Result<Table<Encoding>, NoMemory>
     ensures { IfOk result (λ table. table ≡ encoding_rows) }
 {
@@ -98,7 +89,7 @@ const LONGEST: usize = 10;
 /// The encoding of a name, whose letters may be of either case.
 pub(crate) fn known(encodings: &Table<Encoding>, name: &[u8]) -> Option<Encoding>
     requires { encodings.now ≡ encoding_rows }
-    ensures { result ≡ known_spec name.now }
+    ensures { result ≡ known name.now }
 {
     let mut lowered = [0; LONGEST];
     if LONGEST < name.len() {

@@ -1,7 +1,10 @@
+//! The attributes and the ends of start tags, and the places of finished elements.
+
 ghost use Rattle.std.specs.Prelude.{◌≡◌, ◌+◌, ◌-◌, ◌<◌, ◌≤◌, ℕ, List, [], ◌++◌, ◌∷◌, true, false, length, drop, slice_range, slice_index, IfOk, IfErr, IsTrue, ◌⊎◌};
+ghost use Rattle.ascii_bytes.specs.Classes.{is_white};
 ghost use Rattle.pom_grammar.specs.declared.encoding.Encoding.{Encoding};
-ghost use Rattle.pom_grammar.specs.Characters.{is_name_start as start_test, is_name_byte as name_test, is_space as space_test};
-ghost use Rattle.pom_grammar.specs.Machine.{Place, State, in_segment, in_label, in_tag, in_end, spaced, value, closed, opened, back, with_child, may_open as room_test};
+ghost use Rattle.pom_grammar.specs.Characters.{is_name_start, is_name_byte};
+ghost use Rattle.pom_grammar.specs.Machine.{OpenElements, State, in_segment, in_label, in_tag, in_end, spaced, value, closed, opened, back, with_child, may_open};
 ghost use Rattle.pom_grammar.specs.Encodings.{IsText, utf8_of};
 ghost use Rattle.pom_text.specs.Scans.{Goes, Faults};
 ghost use Rattle.pom_text.specs.Views.{frame_view, nest, open_view, tag_state, AsTag};
@@ -11,26 +14,30 @@ use crate::references::trimmed;
 use crate::scans::{is_at, name_end, space_end, value_end};
 use crate::texts::local_name;
 use crate::tree::{Frame, Open, bad_text};
-use pom_grammar::{Encoding, Tail, TextErr, Tree};
+use pom_grammar::{Encoding, MOST_LEVELS, Tail, TextErr, Tree};
 use res_base::{List, NoMemory, Text};
 use std::alloc::Global;
 
-/// The place behind a start tag, and whether the element is empty.
+/// The place after a start tag, and whether the element is empty.
 #[derive(Drop)]
 pub(crate) struct TagEnd {
     pub(crate) at: usize,
     pub(crate) is_empty: bool,
 }
 
-/// The place behind the equals sign of an attribute and the white space after it.
+/// The place after the equals sign of an attribute and the white space after it.
 fn equals_end(bytes: &[u8], at: usize) -> Result<usize, TextErr>
     requires within { at < length bytes.now }
-    requires behind_name { name_test (slice_index bytes.now at) ≡ false }
+    requires after_name { is_name_byte (slice_index bytes.now at) ≡ false }
     ensures forth { IfOk result (λ end. at < end) }
     ensures past { IfOk result (λ end. end ≤ length bytes.now) }
-    ensures no_space { IfOk result (λ end. end < length bytes.now → space_test (slice_index bytes.now end) ≡ false) }
-    ensures ok { IfOk result (λ end. (e : Encoding) (name seen : List ℕ) (place : Place) → Goes e bytes.now (in_segment (in_label name) place seen Tail.Whole) at (in_tag value name place) end) }
-    ensures err { IfErr result (λ fault. (e : Encoding) (name seen : List ℕ) (place : Place) → Faults e bytes.now (in_segment (in_label name) place seen Tail.Whole) at fault) }
+    ensures no_space { IfOk result (λ end. end < length bytes.now → is_white (slice_index bytes.now end) ≡ false) }
+    ensures ok { IfOk result
+        (λ end. (e : Encoding) (name seen : List ℕ) (place : OpenElements)
+        → Goes e bytes.now (in_segment (in_label name) place seen Tail.Whole) at (in_tag value name place) end) }
+    ensures err { IfErr result
+        (λ fault. (e : Encoding) (name seen : List ℕ) (place : OpenElements)
+        → Faults e bytes.now (in_segment (in_label name) place seen Tail.Whole) at fault) }
 {
     let sign = space_end(bytes, at);
     if is_at(bytes, sign, b'=') {
@@ -48,13 +55,18 @@ fn is_quote(byte: u8) -> bool
     byte == b'"' || byte == b'\''
 }
 
-/// The place behind a quoted value that begins here.
+/// The place after a quoted value that begins here.
 fn quoted_end(bytes: &[u8], at: usize, encoding: Encoding) -> Result<usize, TextErr>
     requires { at ≤ length bytes.now }
     ensures forth { IfOk result (λ end. at < end) }
     ensures past { IfOk result (λ end. end ≤ length bytes.now) }
-    ensures ok { IfOk result (λ end. (name : List ℕ) (place : Place) → Goes encoding bytes.now (in_tag value name place) at (in_tag closed name place) end) }
-    ensures err { IfErr result (λ fault. (name : List ℕ) (place : Place) → (at < length bytes.now → space_test (slice_index bytes.now at) ≡ false) → Faults encoding bytes.now (in_tag value name place) at fault) }
+    ensures ok { IfOk result
+        (λ end. (name : List ℕ) (place : OpenElements)
+        → Goes encoding bytes.now (in_tag value name place) at (in_tag closed name place) end) }
+    ensures err { IfErr result
+        (λ fault. (name : List ℕ) (place : OpenElements)
+        → (at < length bytes.now → is_white (slice_index bytes.now at) ≡ false)
+        → Faults encoding bytes.now (in_tag value name place) at fault) }
 {
     if at < bytes.len() && is_quote(bytes[at]) {
         let end = match value_end(bytes, at + 1, encoding, bytes[at]) {
@@ -67,14 +79,18 @@ fn quoted_end(bytes: &[u8], at: usize, encoding: Encoding) -> Result<usize, Text
     }
 }
 
-/// The place behind an attribute whose name begins here.
+/// The place after an attribute whose name begins here.
 fn attribute_end(bytes: &[u8], at: usize, encoding: Encoding) -> Result<usize, TextErr>
     requires within { at < length bytes.now }
-    requires is_start { start_test (slice_index bytes.now at) ≡ true }
+    requires is_start { is_name_start (slice_index bytes.now at) ≡ true }
     ensures forth { IfOk result (λ end. at < end) }
     ensures past { IfOk result (λ end. end ≤ length bytes.now) }
-    ensures ok { IfOk result (λ end. (name : List ℕ) (place : Place) → Goes encoding bytes.now (in_tag spaced name place) at (in_tag closed name place) end) }
-    ensures err { IfErr result (λ fault. (name : List ℕ) (place : Place) → Faults encoding bytes.now (in_tag spaced name place) at fault) }
+    ensures ok { IfOk result
+        (λ end. (name : List ℕ) (place : OpenElements)
+        → Goes encoding bytes.now (in_tag spaced name place) at (in_tag closed name place) end) }
+    ensures err { IfErr result
+        (λ fault. (name : List ℕ) (place : OpenElements)
+        → Faults encoding bytes.now (in_tag spaced name place) at fault) }
 {
     let name = match name_end(bytes, at, encoding) {
         Ok(end) => end,
@@ -84,20 +100,21 @@ fn attribute_end(bytes: &[u8], at: usize, encoding: Encoding) -> Result<usize, T
         Ok(end) => end,
         Err(fault) => return Err(fault),
     };
-    match quoted_end(bytes, quote, encoding) {
-        Ok(end) => Ok(end),
-        Err(fault) => Err(fault),
-    }
+    quoted_end(bytes, quote, encoding)
 }
 
-/// What ends a start tag, behind its name and attributes.
+/// What ends a start tag, after its name and attributes.
 fn tag_close(bytes: &[u8], at: usize) -> Result<TagEnd, TextErr>
     requires within { at ≤ length bytes.now }
-    requires no_space { at < length bytes.now → space_test (slice_index bytes.now at) ≡ false }
+    requires no_space { at < length bytes.now → is_white (slice_index bytes.now at) ≡ false }
     ensures forth { IfOk result (λ tag. at < tag.at) }
     ensures past { IfOk result (λ tag. tag.at ≤ length bytes.now) }
-    ensures ok { IfOk result (λ tag. (e : Encoding) (name : List ℕ) (place : Place) (s : State) → AsTag e bytes.now at s name place → Goes e bytes.now s at (tag_state e tag name place) tag.at) }
-    ensures err { IfErr result (λ fault. (e : Encoding) (name : List ℕ) (place : Place) (s : State) → AsTag e bytes.now at s name place → Faults e bytes.now s at fault) }
+    ensures ok { IfOk result
+        (λ tag. (e : Encoding) (name : List ℕ) (place : OpenElements) (s : State) → AsTag e bytes.now at s name place
+        → Goes e bytes.now s at (tag_state e tag name place) tag.at) }
+    ensures err { IfErr result
+        (λ fault. (e : Encoding) (name : List ℕ) (place : OpenElements) (s : State) → AsTag e bytes.now at s name place
+        → Faults e bytes.now s at fault) }
 {
     if is_at(bytes, at, b'>') {
         return Ok(TagEnd {
@@ -117,21 +134,27 @@ fn tag_close(bytes: &[u8], at: usize) -> Result<TagEnd, TextErr>
     })
 }
 
-/// Whether an attribute begins behind white space here.
+/// Whether an attribute begins after white space here.
 fn begins_attribute(bytes: &[u8], from: usize, at: usize) -> bool
-    ensures yes { IsTrue result → (from < at) × (at < length bytes.now) × (start_test (slice_index bytes.now at) ≡ true) }
-    ensures not { result ≡ false → from < at → at < length bytes.now → start_test (slice_index bytes.now at) ≡ false }
+    ensures yes { IsTrue result
+        → (from < at) × (at < length bytes.now) × (is_name_start (slice_index bytes.now at) ≡ true) }
+    ensures not { result ≡ false → from < at → at < length bytes.now
+        → is_name_start (slice_index bytes.now at) ≡ false }
 {
     from < at && at < bytes.len() && is_name_start(bytes[at])
 }
 
-/// The attributes behind a name, and the end of the tag.
+/// The attributes after a name, and the end of the tag.
 pub(crate) fn tag_end(bytes: &[u8], at: usize, encoding: Encoding) -> Result<TagEnd, TextErr>
     requires { at ≤ length bytes.now }
     ensures forth { IfOk result (λ tag. at < tag.at) }
     ensures past { IfOk result (λ tag. tag.at ≤ length bytes.now) }
-    ensures ok { IfOk result (λ tag. (name : List ℕ) (place : Place) → Goes encoding bytes.now (in_tag closed name place) at (tag_state encoding tag name place) tag.at) }
-    ensures err { IfErr result (λ fault. (name : List ℕ) (place : Place) → Faults encoding bytes.now (in_tag closed name place) at fault) }
+    ensures ok { IfOk result
+        (λ tag. (name : List ℕ) (place : OpenElements)
+        → Goes encoding bytes.now (in_tag closed name place) at (tag_state encoding tag name place) tag.at) }
+    ensures err { IfErr result
+        (λ fault. (name : List ℕ) (place : OpenElements)
+        → Faults encoding bytes.now (in_tag closed name place) at fault) }
 {
     let mut i = at;
     let mut next = space_end(bytes, i);
@@ -142,22 +165,17 @@ pub(crate) fn tag_end(bytes: &[u8], at: usize, encoding: Encoding) -> Result<Tag
         };
         next = space_end(bytes, i);
     }
-    match tag_close(bytes, next) {
-        Ok(tag) => Ok(tag),
-        Err(fault) => Err(fault),
-    }
+    tag_close(bytes, next)
 }
-
-pub(crate) const DEEPEST: usize = 64;
 
 /// Whether another element may open here: one root, and so many levels.
 pub(crate) fn may_open(stack: &Open) -> bool
-    ensures { result ≡ room_test (open_view stack.now) }
+    ensures { result ≡ may_open (open_view stack.now) }
 {
     if stack.frames.is_empty() {
         stack.root.is_none()
     } else {
-        stack.frames.len() != DEEPEST
+        stack.frames.len() != MOST_LEVELS
     }
 }
 

@@ -1,3 +1,5 @@
+//! Texts in UTF-8, made from the bytes of a document.
+
 ghost use Rattle.std.specs.Prelude.{◌≡◌, ◌++◌, ◌≤◌, length, drop, IfOk, OnOk, encode_utf8};
 ghost use Rattle.std.specs.List.{flat_map};
 ghost use Rattle.pom_grammar.specs.Characters.{local};
@@ -35,7 +37,7 @@ pub(crate) fn push_plain(text: &mut Text, bytes: &[u8], encoding: Encoding) -> R
     }
 }
 
-/// The place behind the first colon, or the start.
+/// The place after the first colon, or the start.
 fn local_start(name: &[u8]) -> usize
     ensures within { result ≤ length name.now }
     ensures value { drop result name.now ≡ local name.now }
@@ -48,7 +50,7 @@ fn local_start(name: &[u8]) -> usize
     0
 }
 
-/// What stands behind the first colon of a name, or the whole name.
+/// What stands after the first colon of a name, or the whole name.
 pub(crate) fn local_name(alloc: Global, name: &[u8], encoding: Encoding) -> Result<Text, NoMemory>
     requires { IsText encoding name.now }
     ensures { IfOk result (λ text. text ≡ utf8_of encoding (local name.now)) }

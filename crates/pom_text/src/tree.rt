@@ -1,3 +1,5 @@
+//! The elements that are open while a document is read.
+
 ghost use Rattle.std.specs.Prelude.{◌≡◌};
 ghost use Rattle.pom_grammar.specs.declared.tree.TextErr.TheVariants.{BadText};
 
@@ -27,7 +29,7 @@ pub(crate) struct Open {
     pub(crate) frames: List<Frame>,
 }
 
-/// What is open behind a place.
+/// What is open after a place.
 #[derive(Drop)]
 pub(crate) struct Step {
     pub(crate) at: usize,

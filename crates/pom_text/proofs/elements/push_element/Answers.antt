@@ -8,4 +8,6 @@ pub returns : goal.returns
 returns c =
     ap (nest (outside c.args.stack.root)) c.in_ok-push.ensures.ok
     ∙ nest_one (outside c.args.stack.root) c.args.stack.frames _
-    ∙ ap (λ f. within f (nest (outside c.args.stack.root) c.args.stack.frames)) (fresh_is c.args.encoding c.args.name.now c.in_ok-raw.raw c.in_ok-label.label c.new.result c.new-2.result c.in_ok-raw.ensures c.in_ok-label.ensures c.new.ensures c.new-2.ensures)
+    ∙ ap (λ f. within f (nest (outside c.args.stack.root) c.args.stack.frames))
+    (fresh_is c.args.encoding c.args.name.now c.in_ok-raw.raw c.in_ok-label.label c.new.result c.new-2.result
+    c.in_ok-raw.ensures c.in_ok-label.ensures c.new.ensures c.new-2.ensures)

@@ -7,5 +7,13 @@ use Rattle.pom_text.proofs.markup.add_text.Goals as goal
 
 pub returns : goal.returns
 returns c =
-    text_nests c.args.stack.root c.args.stack.frames c.push.new.self c.args.frame c.add_run.new.text (with_text (frame_view c.args.frame) (expanded c.args.encoding c.args.run.now)) c.in_ok-push.ensures.ok
-    (ap (λ t. frame_view (record { raw = c.args.frame.raw; label = c.args.frame.label; text = t; children = c.args.frame.children })) c.in_ok-add_run.ensures)
+    text_nests c.args.stack.root c.args.stack.frames c.push.new.self c.args.frame c.add_run.new.text
+    (with_text (frame_view c.args.frame) (expanded c.args.encoding c.args.run.now)) c.in_ok-push.ensures.ok
+    (ap (λ t. frame_view
+    (record {
+      raw = c.args.frame.raw;
+      label = c.args.frame.label;
+      text = t;
+      children =
+          c.args.frame.children;
+    })) c.in_ok-add_run.ensures)

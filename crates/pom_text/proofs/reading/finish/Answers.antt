@@ -5,5 +5,6 @@ use Rattle.pom_text.proofs.reading.finish.Goals as goal
 
 pub returns-then-not-is_empty-clause-err : goal.returns-then-not-is_empty-clause-err
 returns-then-not-is_empty-clause-err c =
-    inner_end c.args.stack.root c.args.stack.frames c.args.end (λ f. false≢true (sym c.if-not-is_empty.true ∙ c.is_empty.ensures.1 f))
+    inner_end c.args.stack.root c.args.stack.frames c.args.end
+    (λ f. false≢true (sym c.if-not-is_empty.true ∙ c.is_empty.ensures.1 f))
     ∙ ap Err (sym c.bad_text.ensures)

@@ -7,14 +7,17 @@ use Rattle.pom_text.proofs.scans.name_end.Goals as goal
 
 pub loop-i-preserved-then-byte-ge128 : goal.loop-i-preserved-then-byte-ge128
 loop-i-preserved-then-byte-ge128 c = (
-  λ kind is. runs_join c.args.encoding c.args.bytes.now kind c.args.at c.loop-i.i c.in_ok-i.i (c.loop-i.invariant.0 kind is) (c.in_ok-i.ensures.ok kind),
+  λ kind is. runs_join c.args.encoding c.args.bytes.now kind c.args.at c.loop-i.i c.in_ok-i.i
+      (c.loop-i.invariant.0 kind is) (c.in_ok-i.ensures.ok kind),
   (c.in_ok-i.ensures.ok in_name).within,
   omega (arith, c.loop-i.invariant.2, c.in_ok-i.ensures.forth),
 )
 
 pub loop-i-preserved : goal.loop-i-preserved
 loop-i-preserved c = (
-  λ kind is. runs_one c.args.encoding c.args.bytes.now kind c.args.at c.loop-i.i c.loop-i-test.true (lt-ltb _ 128 c.if-byte-ge128.false) (naming_quiet kind _ is (sym c.is_name_byte.ensures ∙ c.if-is_name_byte.true)) (c.loop-i.invariant.0 kind is),
+  λ kind is. runs_one c.args.encoding c.args.bytes.now kind c.args.at c.loop-i.i c.loop-i-test.true
+      (lt-ltb _ 128 c.if-byte-ge128.false)
+      (naming_quiet kind _ is (sym c.is_name_byte.ensures ∙ c.if-is_name_byte.true)) (c.loop-i.invariant.0 kind is),
   omega arith,
   omega (arith, c.loop-i.invariant.2),
 )

@@ -6,6 +6,8 @@ use Rattle.pom_text.proofs.scans.stands.Goals.{else-i-bytes-via-then-i-bytes+els
 pub returns-else-i-bytes : goal.returns-else-i-bytes
 returns-else-i-bytes c =
     sym (c.loop-byte.invariant.1 ∙ (elim c.else-i-bytes.branch [
-      | else-i-bytes-via-then-i-bytes+else-bytes-i w ↦ stands_not c.args.bytes.now c.args.literal.now c.loop-byte.byte-index c.loop-byte.i c.loop-byte-test.true w.if-i-bytes.true w.if-bytes-i.false
-      | else-i-bytes-via-else-i-bytes w ↦ stands_past c.args.bytes.now c.args.literal.now c.loop-byte.byte-index c.loop-byte.i c.loop-byte-test.true w.if-i-bytes.false
+      | else-i-bytes-via-then-i-bytes+else-bytes-i w ↦ stands_not c.args.bytes.now c.args.literal.now
+          c.loop-byte.byte-index c.loop-byte.i c.loop-byte-test.true w.if-i-bytes.true w.if-bytes-i.false
+      | else-i-bytes-via-else-i-bytes w ↦ stands_past c.args.bytes.now c.args.literal.now c.loop-byte.byte-index
+          c.loop-byte.i c.loop-byte-test.true w.if-i-bytes.false
     ]))

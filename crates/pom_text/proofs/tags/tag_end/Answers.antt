@@ -1,5 +1,6 @@
 use Rattle.std.proofs.Common.{◌≡◌, inl, inr, ◌∙◌, ap, drop, arith}
 use Rattle.std.proofs.lemmas.Bool.{cases_lt}
+use Rattle.std.proofs.lemmas.Result.{IfOk-weaker, IfErr-weaker}
 use Rattle.pom_grammar.specs.Machine.{in_tag, closed, spaced}
 use Rattle.pom_grammar.specs.Verdicts.{verdict}
 use Rattle.pom_text.proofs.TagFacts.{to_spaced, as_closed, as_spaced}
@@ -9,7 +10,8 @@ pub returns-in-Err-clause-err : goal.returns-in-Err-clause-err
 returns-in-Err-clause-err c = λ name place.
     let begins = c.begins_attribute.ensures.yes c.loop-encoding-test.true in
     c.loop-encoding.invariant.5 name place
-    ∙ to_spaced c.args.encoding c.args.bytes.now name place c.loop-encoding.i c.loop-encoding.next begins.0 c.loop-encoding.invariant.2 c.loop-encoding.invariant.3
+    ∙ to_spaced c.args.encoding c.args.bytes.now name place c.loop-encoding.i c.loop-encoding.next begins.0
+    c.loop-encoding.invariant.2 c.loop-encoding.invariant.3
     ∙ c.in-Err.ensures.err name place
 
 pub loop-encoding-preserved : goal.loop-encoding-preserved
@@ -22,32 +24,51 @@ loop-encoding-preserved c =
       c.space_end-next-in-loop-encoding.ensures.ends,
       λ name place.
           c.loop-encoding.invariant.5 name place
-          ∙ to_spaced c.args.encoding c.args.bytes.now name place c.loop-encoding.i c.loop-encoding.next begins.0 c.loop-encoding.invariant.2 c.loop-encoding.invariant.3
+          ∙ to_spaced c.args.encoding c.args.bytes.now name place c.loop-encoding.i c.loop-encoding.next begins.0
+          c.loop-encoding.invariant.2 c.loop-encoding.invariant.3
           ∙ c.in-Ok.ensures.ok name place,
     )
 
-pub returns-in-Ok-tag_close-clause-ok : goal.returns-in-Ok-tag_close-clause-ok
-returns-in-Ok-tag_close-clause-ok c = λ name place.
-    c.loop-encoding.invariant.5 name place
-    ∙ elim (cases_lt c.loop-encoding.i c.loop-encoding.next) [
-      | inl some ↦
-          to_spaced c.args.encoding c.args.bytes.now name place c.loop-encoding.i c.loop-encoding.next some c.loop-encoding.invariant.2 c.loop-encoding.invariant.3
-          ∙ c.in-Ok-tag_close.ensures.ok c.args.encoding name place (in_tag spaced name place) (as_spaced c.args.encoding c.args.bytes.now name place c.loop-encoding.next (c.begins_attribute.ensures.not c.loop-encoding-test.false some))
-      | inr none_left ↦
-          let same : c.loop-encoding.i ≡ c.loop-encoding.next = omega (arith, none_left, c.loop-encoding.invariant.1) in
-          ap (λ k. verdict c.args.encoding (in_tag closed name place) (drop k c.args.bytes.now) k) same
-          ∙ c.in-Ok-tag_close.ensures.ok c.args.encoding name place (in_tag closed name place) (as_closed c.args.encoding c.args.bytes.now name place c.loop-encoding.next)
-    ]
+pub returns-clause-forth : goal.returns-clause-forth
+returns-clause-forth c =
+    IfOk-weaker c.tag_close.result _ _
+    (λ tag further. omega (arith, c.loop-encoding.invariant.0, c.loop-encoding.invariant.1, further))
+    c.tag_close.ensures.forth
 
-pub returns-in-Err-tag_close-clause-err : goal.returns-in-Err-tag_close-clause-err
-returns-in-Err-tag_close-clause-err c = λ name place.
+pub returns-clause-ok : goal.returns-clause-ok
+returns-clause-ok c =
+    IfOk-weaker c.tag_close.result _ _
+    (λ tag on name place.
     c.loop-encoding.invariant.5 name place
     ∙ elim (cases_lt c.loop-encoding.i c.loop-encoding.next) [
       | inl some ↦
-          to_spaced c.args.encoding c.args.bytes.now name place c.loop-encoding.i c.loop-encoding.next some c.loop-encoding.invariant.2 c.loop-encoding.invariant.3
-          ∙ c.in-Err-tag_close.ensures.err c.args.encoding name place (in_tag spaced name place) (as_spaced c.args.encoding c.args.bytes.now name place c.loop-encoding.next (c.begins_attribute.ensures.not c.loop-encoding-test.false some))
+          to_spaced c.args.encoding c.args.bytes.now name place c.loop-encoding.i c.loop-encoding.next some
+          c.loop-encoding.invariant.2 c.loop-encoding.invariant.3
+          ∙ on c.args.encoding name place (in_tag spaced name place)
+          (as_spaced c.args.encoding c.args.bytes.now name place c.loop-encoding.next
+          (c.begins_attribute.ensures.not c.loop-encoding-test.false some))
       | inr none_left ↦
           let same : c.loop-encoding.i ≡ c.loop-encoding.next = omega (arith, none_left, c.loop-encoding.invariant.1) in
           ap (λ k. verdict c.args.encoding (in_tag closed name place) (drop k c.args.bytes.now) k) same
-          ∙ c.in-Err-tag_close.ensures.err c.args.encoding name place (in_tag closed name place) (as_closed c.args.encoding c.args.bytes.now name place c.loop-encoding.next)
-    ]
+          ∙ on c.args.encoding name place (in_tag closed name place)
+          (as_closed c.args.encoding c.args.bytes.now name place c.loop-encoding.next)
+    ]) c.tag_close.ensures.ok
+
+pub returns-clause-err : goal.returns-clause-err
+returns-clause-err c =
+    IfErr-weaker c.tag_close.result _ _
+    (λ fault breaks name place.
+    c.loop-encoding.invariant.5 name place
+    ∙ elim (cases_lt c.loop-encoding.i c.loop-encoding.next) [
+      | inl some ↦
+          to_spaced c.args.encoding c.args.bytes.now name place c.loop-encoding.i c.loop-encoding.next some
+          c.loop-encoding.invariant.2 c.loop-encoding.invariant.3
+          ∙ breaks c.args.encoding name place (in_tag spaced name place)
+          (as_spaced c.args.encoding c.args.bytes.now name place c.loop-encoding.next
+          (c.begins_attribute.ensures.not c.loop-encoding-test.false some))
+      | inr none_left ↦
+          let same : c.loop-encoding.i ≡ c.loop-encoding.next = omega (arith, none_left, c.loop-encoding.invariant.1) in
+          ap (λ k. verdict c.args.encoding (in_tag closed name place) (drop k c.args.bytes.now) k) same
+          ∙ breaks c.args.encoding name place (in_tag closed name place)
+          (as_closed c.args.encoding c.args.bytes.now name place c.loop-encoding.next)
+    ]) c.tag_close.ensures.err
