@@ -1,2 +1,2 @@
-pub mod Numbers
-pub mod Telling
+-- What is answered for a document's tree, and for its bytes.
+pub mod ReadingLemmas

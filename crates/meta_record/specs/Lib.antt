@@ -1,5 +1,4 @@
-pub mod Answered
-pub mod Answers
-pub mod Names
-pub mod Refused
+pub mod Listings
+pub mod Readings
+pub mod Refusals
 pub mod Versions

@@ -1,4 +1,5 @@
 //! Refusals of listings.
+
 ghost use Rattle.std.specs.Prelude.{◌≡◌};
 
 use pom_text::TextErr;
@@ -7,7 +8,7 @@ use res_base::NoMemory;
 /// Why no listing was read. Places are bytes from the start of the input.
 #[derive(Debug, Drop)]
 pub enum ListingErr {
-    /// The longest front of the input that begins some document has this length.
+    /// The longest prefix of the input that begins some document has this length.
     BadText(u64),
     /// A `<!DOCTYPE` stands before the root, at this place.
     Doctype(u64),
@@ -21,9 +22,9 @@ pub enum ListingErr {
 }
 
 impl From<NoMemory> for ListingErr {
-    ghost use Rattle.meta_record.specs.declared.listing_err.ListingErr.TheVariants.{NoMemory as OutOfMemory};
+    ghost use Rattle.meta_record.specs.declared.listing_err.ListingErr.TheVariants.{NoMemory};
 
-    ghost from_gives = { λ _ e. e ≡ OutOfMemory };
+    ghost from_gives = { λ _ e. e ≡ NoMemory };
 
     fn from(_: NoMemory) -> ListingErr {
         ListingErr::NoMemory
@@ -31,7 +32,7 @@ impl From<NoMemory> for ListingErr {
 }
 
 impl From<TextErr> for ListingErr {
-    ghost use Rattle.meta_record.specs.Refused.{of_text};
+    ghost use Rattle.meta_record.specs.Refusals.{of_text};
 
     ghost from_gives = { λ fault e. e ≡ of_text fault };
 

@@ -1,24 +1,23 @@
 //! The reader of listings.
 ghost use Rattle.std.specs.Prelude.{◌≡◌, ◌+◌, length, IfOk, IfErr};
-ghost use Rattle.meta_record.specs.Answered.{IsAnswered};
-ghost use Rattle.meta_record.specs.Answers.{listing_of as answer_of, IsListing, IsRefusal};
+ghost use Rattle.meta_record.specs.Listings.{listing_of, IsListing};
+ghost use Rattle.meta_record.specs.Readings.{read_listing, IsAnswered};
+ghost use Rattle.meta_record.specs.Refusals.{IsRefusal};
 
 use crate::listing_err::ListingErr;
-use crate::names::{METADATA, field_names, is_named};
-use crate::versions::versions_of;
+use crate::versions::{is_named, versions_in};
 use pom_text::{Tree, read_tree};
 use res_base::{List, Steps, Text};
 use std::alloc::Global;
 use std::sync::ledger::Ledger;
 
 fn listing_of(alloc: Global, tree: Tree) -> Result<List<Text>, ListingErr>
-    ensures { IsAnswered (answer_of tree) result }
+    ensures { IsAnswered (listing_of tree) result }
 {
-    let names = field_names(alloc)?;
-    if !is_named(&names, &tree, METADATA) {
+    if !is_named(&tree, "metadata") {
         return Err(ListingErr::NotMetadata);
     }
-    let versions = versions_of(alloc, &names, tree.children)?;
+    let versions = versions_in(alloc, tree.children)?;
     Ok(versions)
 }
 
@@ -32,6 +31,7 @@ pub fn read_listing<L: Ledger>(
     bytes: &[u8],
     steps: &mut Steps<L>,
 ) -> Result<List<Text>, ListingErr>
+    ensures answer { IsAnswered (read_listing bytes.now) result }
     ensures read { IfOk result (IsListing bytes.now) }
     ensures refused { IfErr result (IsRefusal bytes.now) }
     ensures steps { steps.new ≡ steps.old + length bytes.now }
