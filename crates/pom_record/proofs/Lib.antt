@@ -1,4 +1,4 @@
-pub mod Found
-pub mod Numbers
+-- What is answered for trees and bytes, and where fields and properties stand.
+pub mod PropertyLemmas
+pub mod ReadingLemmas
 pub mod Sorted
-pub mod Telling

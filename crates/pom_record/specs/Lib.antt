@@ -1,8 +1,7 @@
-pub mod Answered
-pub mod Answers
-pub mod Entries
+pub mod FieldNames
+pub mod FieldPlaces
 pub mod Fields
-pub mod Names
-pub mod Places
+pub mod Projects
+pub mod Readings
 pub mod Record
-pub mod Refused
+pub mod Refusals

@@ -1,5 +1,5 @@
 -- What a project file says: the fields of the tree of its text, after the Maven POM reference.
-use Rattle.std.specs.Prelude.{ℕ, Bool, cond, List, [], ◌∷◌, ◌++◌, length, map, fold, Option, Some, None, option_map, ◌==◌, codes}
+use Rattle.std.specs.Prelude.{ℕ, Bool, if◌then◌else◌, List, [], ◌∷◌, ◌++◌, length, map, fold, Option, Some, None, option_map, ◌==◌, codes}
 use Rattle.std.specs.List.{list_any}
 use Rattle.std.specs.Str.{bytes_eq}
 use Rattle.pom_grammar.specs.declared.tree.Tree.{Tree, out-Tree}
@@ -53,7 +53,7 @@ abbrev pub has_name : List ℕ → List Property → Bool
 has_name name properties = list_any (λ p. bytes_eq name p.name) properties
 
 abbrev pub put_property : List Property → Property → List Property
-put_property properties p = cond (has_name p.name properties) properties (properties ++ p ∷ [])
+put_property properties p = if has_name p.name properties then properties else properties ++ p ∷ []
 
 abbrev pub properties : List Tree → List Property
 properties children = fold put_property [] (map property children)
@@ -61,11 +61,16 @@ properties children = fold put_property [] (map property children)
 abbrev pub moved : Tree → Moved
 moved tree =
     let children = (out-Tree tree).children in
-    record { org = text_of (codes "groupId") children; name = text_of (codes "artifactId") children; version = text_of (codes "version") children }
+    record {
+      org = text_of (codes "groupId") children;
+      name = text_of (codes "artifactId") children;
+      version =
+          text_of (codes "version") children;
+    }
 
 -- an absent packaging is `jar`
 abbrev pub or_jar : List ℕ → List ℕ
-or_jar text = cond (length text == 0) (codes "jar") text
+or_jar text = if length text == 0 then codes "jar" else text
 
 abbrev pub record_in : List Tree → PomRecord
 record_in children =
@@ -84,12 +89,14 @@ record_in children =
 -- the first of these coordinates whose text is absent, that is, empty
 abbrev pub first_absent : List (List ℕ × Field) → Option Field
 first_absent [] = None
-first_absent (row ∷ rows) = cond (length row.0 == 0) (Some row.1) (first_absent rows)
+first_absent (row ∷ rows) = if length row.0 == 0 then Some row.1 else first_absent rows
 
 -- the coordinates that must stand, in the order in which they are looked at: those of the parent where there is one, which lends its org and version
 abbrev pub required : Option Coord → PomRecord → List (List ℕ × Field)
 required None pom = (pom.org, Org) ∷ (pom.name, Name) ∷ (pom.version, Version) ∷ []
-required (Some parent) pom = (parent.«module».org, ParentOrg) ∷ (parent.«module».name, ParentName) ∷ (parent.version, ParentVersion) ∷ (pom.name, Name) ∷ []
+required (Some parent) pom =
+    (parent.«module».org, ParentOrg) ∷ (parent.«module».name, ParentName) ∷ (parent.version, ParentVersion) ∷
+    (pom.name, Name) ∷ []
 
 abbrev pub absent : PomRecord → Option Field
 absent pom = first_absent (required pom.parent pom)

@@ -1,8 +1,8 @@
 //! Dependencies and coordinates.
 ghost use Rattle.std.specs.Prelude.{◌≡◌, IfOk, map, codes};
 ghost use Rattle.pom_record.specs.Fields.{named};
-ghost use Rattle.pom_record.specs.Names.{name_rows};
-ghost use Rattle.pom_record.specs.Record.{coord_in, moved as moved_in, exclusion, dependency};
+ghost use Rattle.pom_record.specs.FieldNames.{name_rows};
+ghost use Rattle.pom_record.specs.Record.{coord_in, moved, exclusion, dependency};
 
 use crate::fields::{Fields, is_named};
 use crate::names;
@@ -12,7 +12,7 @@ use res_base::{Coord, DepRecord, Exclusion, List, Module, Moved, NoMemory};
 use std::alloc::Global;
 
 /// The coordinate that an element has, absent parts empty.
-pub(crate) fn coord_of(alloc: Global, names: &Table<usize>, tree: &Tree) -> Result<Coord, NoMemory>
+pub(crate) fn coord_in(alloc: Global, names: &Table<usize>, tree: &Tree) -> Result<Coord, NoMemory>
     requires { names.now ≡ name_rows }
     ensures { IfOk result (λ coord. coord ≡ coord_in tree.now) }
 {
@@ -27,9 +27,9 @@ pub(crate) fn coord_of(alloc: Global, names: &Table<usize>, tree: &Tree) -> Resu
 }
 
 /// Where an element says that its project has moved to.
-pub(crate) fn moved_of(alloc: Global, names: &Table<usize>, tree: &Tree) -> Result<Moved, NoMemory>
+pub(crate) fn moved(alloc: Global, names: &Table<usize>, tree: &Tree) -> Result<Moved, NoMemory>
     requires { names.now ≡ name_rows }
-    ensures { IfOk result (λ moved. moved ≡ moved_in tree.now) }
+    ensures { IfOk result (λ made. made ≡ moved tree.now) }
 {
     let fields = Fields::of(names, tree.children.as_slice());
     Ok(Moved {
@@ -39,7 +39,7 @@ pub(crate) fn moved_of(alloc: Global, names: &Table<usize>, tree: &Tree) -> Resu
     })
 }
 
-fn exclusion_of(alloc: Global, names: &Table<usize>, tree: &Tree) -> Result<Exclusion, NoMemory>
+fn exclusion(alloc: Global, names: &Table<usize>, tree: &Tree) -> Result<Exclusion, NoMemory>
     requires { names.now ≡ name_rows }
     ensures { IfOk result (λ made. made ≡ exclusion tree.now) }
 {
@@ -61,13 +61,13 @@ fn exclusions_of(
     let mut made: List<Exclusion> = List::new(alloc);
     for child in children {
         if is_named(names, child, names::EXCLUSION) {
-            made.push(exclusion_of(alloc, names, child)?)?;
+            made.push(exclusion(alloc, names, child)?)?;
         }
     }
     Ok(made)
 }
 
-fn dependency_of(alloc: Global, names: &Table<usize>, tree: &Tree) -> Result<DepRecord, NoMemory>
+fn dependency(alloc: Global, names: &Table<usize>, tree: &Tree) -> Result<DepRecord, NoMemory>
     requires { names.now ≡ name_rows }
     ensures { IfOk result (λ made. made ≡ dependency tree.now) }
 {
@@ -98,7 +98,7 @@ pub(crate) fn rows_of(
     let mut made: List<DepRecord> = List::new(alloc);
     for child in children {
         if is_named(names, child, names::DEPENDENCY) {
-            made.push(dependency_of(alloc, names, child)?)?;
+            made.push(dependency(alloc, names, child)?)?;
         }
     }
     Ok(made)

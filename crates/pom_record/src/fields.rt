@@ -1,12 +1,13 @@
 //! The fields of an element.
 ghost use Rattle.std.specs.Prelude.{◌≡◌, ◌<◌, IfOk, IsTrue};
 ghost use Rattle.std.specs.Option.{option_copied};
-ghost use Rattle.pom_record.specs.Fields.{is_named as named_so, field, text_of, children_of};
-ghost use Rattle.pom_record.specs.Names.{name_rows, name_at};
-ghost use Rattle.pom_record.specs.Places.{ArePlaces};
+ghost use Rattle.case_table.specs.Numbers.{name_at};
+ghost use Rattle.pom_record.specs.Fields.{is_named, field, text_of, children_of};
+ghost use Rattle.pom_record.specs.FieldNames.{name_rows};
+ghost use Rattle.pom_record.specs.FieldPlaces.{ArePlaces};
 
 use crate::names::COUNT;
-use case_table::Table;
+use case_table::{Table, names_numbered};
 use pom_text::Tree;
 use res_base::{Copied, NoMemory, Text};
 use std::alloc::Global;
@@ -24,6 +25,7 @@ fn places_of(names: &Table<usize>, children: &[Tree]) -> [usize; COUNT]
     requires { names.now ≡ name_rows }
     ensures { ArePlaces children.now result }
 {
+    names_numbered();
     let mut places = [children.len(); COUNT];
     let mut at = children.len();
     while at > 0 {
@@ -50,7 +52,7 @@ impl<'a> Fields<'a> {
     pub(crate) fn field(&self, number: usize) -> Option<&'a Tree>
         requires number { number < 18 }
         requires places { ArePlaces self.now.children.now self.now.places }
-        ensures { option_copied result ≡ field (name_at number) self.now.children.now }
+        ensures { option_copied result ≡ field (name_at name_rows number) self.now.children.now }
     {
         self.children.get(self.places[number])
     }
@@ -59,7 +61,7 @@ impl<'a> Fields<'a> {
     pub(crate) fn text(&self, alloc: Global, number: usize) -> Result<Text, NoMemory>
         requires number { number < 18 }
         requires places { ArePlaces self.now.children.now self.now.places }
-        ensures { IfOk result (λ text. text ≡ text_of (name_at number) self.now.children.now) }
+        ensures { IfOk result (λ text. text ≡ text_of (name_at name_rows number) self.now.children.now) }
     {
         match self.field(number) {
             Some(child) => child.text.copy(alloc),
@@ -71,7 +73,7 @@ impl<'a> Fields<'a> {
     pub(crate) fn children(&self, number: usize) -> &'a [Tree]
         requires number { number < 18 }
         requires places { ArePlaces self.now.children.now self.now.places }
-        ensures { result.now ≡ children_of (name_at number) self.now.children.now }
+        ensures { result.now ≡ children_of (name_at name_rows number) self.now.children.now }
     {
         match self.field(number) {
             Some(child) => child.children.as_slice(),
@@ -84,8 +86,9 @@ impl<'a> Fields<'a> {
 pub(crate) fn is_named(names: &Table<usize>, tree: &Tree, number: usize) -> bool
     requires names { names.now ≡ name_rows }
     requires number { number < 18 }
-    ensures { result ≡ named_so (name_at number) tree.now }
+    ensures { result ≡ is_named (name_at name_rows number) tree.now }
 {
+    names_numbered();
     match names.find(tree.name.as_str()) {
         Some(found) => *found == number,
         None => false,

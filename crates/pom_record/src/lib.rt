@@ -3,6 +3,7 @@
 
 mod dependencies;
 mod fields;
+mod laws;
 mod names;
 mod pom_err;
 mod project;
@@ -11,5 +12,6 @@ mod read;
 #[cfg(test)]
 mod tests;
 
+pub use laws::reading_laws;
 pub use pom_err::PomErr;
 pub use read::read_pom;

@@ -1,9 +1,8 @@
 //! The names of the fields that are read, and their numbers.
 ghost use Rattle.std.specs.Prelude.{◌≡◌, IfOk, IfErr};
-ghost use Rattle.pom_record.specs.Names.{name_rows};
-ghost use Rattle.case_table.specs.declared.table.AddErr.TheVariants.{NoMemory as OutOfMemory};
+ghost use Rattle.pom_record.specs.FieldNames.{name_rows};
 
-use case_table::{AddErr, Table};
+use case_table::{AddErr, Table, rows};
 use res_base::NoMemory;
 use std::alloc::Global;
 
@@ -46,17 +45,9 @@ pub(crate) const VERSION: usize = 17;
 /// How many names there are.
 pub(crate) const COUNT: usize = 18;
 
-macro_rules! rows {
-    ($alloc:expr; $($name:literal => $value:expr),+ $(,)?) => {{
-        let mut table = Table::new($alloc);
-        $(table.add($alloc, $name, $value)?;)+
-        table
-    }};
-}
-
 fn filled(alloc: Global) -> Result<Table<usize>, AddErr>
     ensures value { IfOk result (λ table. table ≡ name_rows) }
-    ensures sorted { IfErr result (λ e. e ≡ OutOfMemory) }
+    ensures sorted { IfErr result (λ e. e ≡ AddErr.NoMemory) }
 {
     Ok(rows! {
         alloc;

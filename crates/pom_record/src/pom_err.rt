@@ -7,7 +7,7 @@ use res_base::{Field, NoMemory};
 /// Why no record was read. Places are bytes from the start of the input.
 #[derive(Debug, Drop)]
 pub enum PomErr {
-    /// The longest front of the input that begins some document has this length.
+    /// The longest prefix of the input that begins some document has this length.
     BadText(u64),
     /// A `<!DOCTYPE` stands before the root, at this place.
     Doctype(u64),
@@ -23,9 +23,9 @@ pub enum PomErr {
 }
 
 impl From<NoMemory> for PomErr {
-    ghost use Rattle.pom_record.specs.declared.pom_err.PomErr.TheVariants.{NoMemory as OutOfMemory};
+    ghost use Rattle.pom_record.specs.declared.pom_err.PomErr.TheVariants.{NoMemory};
 
-    ghost from_gives = { λ _ e. e ≡ OutOfMemory };
+    ghost from_gives = { λ _ e. e ≡ NoMemory };
 
     fn from(_: NoMemory) -> PomErr {
         PomErr::NoMemory
@@ -33,7 +33,7 @@ impl From<NoMemory> for PomErr {
 }
 
 impl From<TextErr> for PomErr {
-    ghost use Rattle.pom_record.specs.Refused.{of_text};
+    ghost use Rattle.pom_record.specs.Refusals.{of_text};
 
     ghost from_gives = { λ fault e. e ≡ of_text fault };
 

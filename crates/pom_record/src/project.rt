@@ -2,19 +2,19 @@
 ghost use Rattle.std.specs.Prelude.{◌≡◌, IfOk, option_map, codes};
 ghost use Rattle.std.specs.Option.{option_copied};
 ghost use Rattle.pom_record.specs.Fields.{field};
-ghost use Rattle.pom_record.specs.Names.{name_rows};
-ghost use Rattle.pom_record.specs.Record.{coord_in, moved, dependencies, record_in, required, first_absent, absent as absent_in, or_jar};
+ghost use Rattle.pom_record.specs.FieldNames.{name_rows};
+ghost use Rattle.pom_record.specs.Record.{coord_in, moved, dependencies, record_in, required, first_absent, absent, or_jar};
 
-use crate::dependencies::{coord_of, moved_of, rows_of};
+use crate::dependencies::{coord_in, moved, rows_of};
 use crate::fields::Fields;
 use crate::names;
-use crate::properties::properties_of;
+use crate::properties::properties;
 use case_table::Table;
 use pom_text::Tree;
 use res_base::{Coord, DepRecord, Field, List, Moved, NoMemory, PomRecord, Text};
 use std::alloc::Global;
 
-fn packaging_of(alloc: Global, text: Text) -> Result<Text, NoMemory>
+fn or_jar(alloc: Global, text: Text) -> Result<Text, NoMemory>
     ensures { IfOk result (λ made. made ≡ or_jar text) }
 {
     if text.as_str().is_empty() {
@@ -33,7 +33,7 @@ fn parent_of(
     ensures { IfOk result (λ made. made ≡ option_map coord_in (option_copied tree.entry)) }
 {
     match tree {
-        Some(tree) => Ok(Some(coord_of(alloc, names, tree)?)),
+        Some(tree) => Ok(Some(coord_in(alloc, names, tree)?)),
         None => Ok(None),
     }
 }
@@ -47,12 +47,12 @@ fn relocation_of(
     ensures { IfOk result (λ made. made ≡ option_map moved (field (codes "relocation") children.now)) }
 {
     match Fields::of(names, children).field(names::RELOCATION) {
-        Some(tree) => Ok(Some(moved_of(alloc, names, tree)?)),
+        Some(tree) => Ok(Some(moved(alloc, names, tree)?)),
         None => Ok(None),
     }
 }
 
-fn managed_of(
+fn dependencies(
     alloc: Global,
     names: &Table<usize>,
     children: &[Tree],
@@ -65,7 +65,7 @@ fn managed_of(
 }
 
 /// The fields of the root, absent texts empty.
-pub(crate) fn record_of(
+pub(crate) fn record_in(
     alloc: Global,
     names: &Table<usize>,
     children: &[Tree],
@@ -79,10 +79,10 @@ pub(crate) fn record_of(
         org: fields.text(alloc, names::GROUP_ID)?,
         name: fields.text(alloc, names::ARTIFACT_ID)?,
         version: fields.text(alloc, names::VERSION)?,
-        packaging: packaging_of(alloc, fields.text(alloc, names::PACKAGING)?)?,
-        properties: properties_of(alloc, fields.children(names::PROPERTIES))?,
+        packaging: or_jar(alloc, fields.text(alloc, names::PACKAGING)?)?,
+        properties: properties(alloc, fields.children(names::PROPERTIES))?,
         deps: rows_of(alloc, names, fields.children(names::DEPENDENCIES))?,
-        managed: managed_of(alloc, names, fields.children(names::DEPENDENCY_MANAGEMENT))?,
+        managed: dependencies(alloc, names, fields.children(names::DEPENDENCY_MANAGEMENT))?,
         moved: relocation_of(
             alloc,
             names,
@@ -125,7 +125,7 @@ fn absent_below(parent: &Coord, pom: &PomRecord) -> Option<Field>
 
 /// The first coordinate that a project lacks.
 pub(crate) fn absent(pom: &PomRecord) -> Option<Field>
-    ensures { result ≡ absent_in pom.now }
+    ensures { result ≡ absent pom.now }
 {
     match &pom.parent {
         Some(parent) => absent_below(parent, pom),

@@ -1,40 +1,44 @@
 //! Properties.
-ghost use Rattle.std.specs.Prelude.{◌≡◌, IfOk, OnOk, map};
-ghost use Rattle.pom_record.specs.Record.{property, properties, put_property};
-ghost use Rattle.pom_record.specs.Entries.{pair_property};
 
-use indexmap::IndexMap;
+ghost use Rattle.std.specs.Prelude.{◌≡◌, [], ◌∷◌, ◌++◌, IfOk, OnOk};
+ghost use Rattle.pom_record.specs.Record.{property, properties};
+
 use pom_text::Tree;
-use res_base::{Copied, List, NoMemory, Property, Text};
+use res_base::{Copied, List, NoMemory, Property};
 use std::alloc::Global;
+use std::collections::BTreeMap;
 
-/// Adds an element's name and text, unless the name is there.
-fn put(alloc: Global, found: &mut IndexMap<Text, Text>, tree: &Tree) -> Result<(), NoMemory>
-    ensures { OnOk result (map pair_property found.new.entries ≡ put_property (map pair_property found.old.entries) (property tree.now)) }
+fn property(alloc: Global, tree: &Tree) -> Result<Property, NoMemory>
+    ensures { IfOk result (λ made. made ≡ property tree.now) }
 {
-    if !found.contains_key(&tree.name) {
-        found.insert(tree.name.copy(alloc)?, tree.text.copy(alloc)?)?;
-    }
+    Ok(Property {
+        name: tree.name.copy(alloc)?,
+        value: tree.text.copy(alloc)?,
+    })
+}
+
+/// Puts an element's property at the end.
+fn add(alloc: Global, made: &mut List<Property>, tree: &Tree) -> Result<(), NoMemory>
+    ensures { OnOk result (made.new ≡ made.old ++ property tree.now ∷ []) }
+{
+    made.push(property(alloc, tree)?)?;
     Ok(())
 }
 
 /// The properties that elements spell: the first of each name.
-pub(crate) fn properties_of(alloc: Global, children: &[Tree]) -> Result<List<Property>, NoMemory>
+///
+/// The names come from strangers, so they are kept in order, and not by a hash.
+pub(crate) fn properties(alloc: Global, children: &[Tree]) -> Result<List<Property>, NoMemory>
     ensures { IfOk result (λ made. made ≡ properties children.now) }
 {
-    let mut found: IndexMap<Text, Text> = IndexMap::new(alloc);
-    for child in children {
-        put(alloc, &mut found, child)?;
-    }
-    list_of(alloc, found)
-}
-
-fn list_of(alloc: Global, found: IndexMap<Text, Text>) -> Result<List<Property>, NoMemory>
-    ensures { IfOk result (λ made. made ≡ map pair_property found.entries) }
-{
+    let mut names: BTreeMap<&str, ()> = BTreeMap::new(alloc);
     let mut made: List<Property> = List::new(alloc);
-    for (name, value) in found {
-        made.push(Property { name, value })?;
+    for child in children {
+        let name = child.name.as_str();
+        if !names.contains_key(name) {
+            names.insert(name, ())?;
+            add(alloc, &mut made, child)?;
+        }
     }
     Ok(made)
 }

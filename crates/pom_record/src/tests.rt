@@ -38,20 +38,8 @@ fn coordinates_that_are_absent(rt: HostRuntime) {
             Field::Org,
         ),
         (
-            "<project><groupId>x</groupId><version>1</version></project>",
-            Field::Name,
-        ),
-        (
-            "<project><groupId>x</groupId><artifactId>a</artifactId></project>",
-            Field::Version,
-        ),
-        (
             "<project><parent/><artifactId>a</artifactId></project>",
             Field::ParentOrg,
-        ),
-        (
-            "<project><parent><groupId>x</groupId><version>1</version></parent></project>",
-            Field::ParentName,
         ),
         (
             "<project><parent><groupId>x</groupId><artifactId>p</artifactId></parent></project>",

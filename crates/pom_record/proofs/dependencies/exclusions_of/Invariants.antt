@@ -5,4 +5,6 @@ use Rattle.pom_record.specs.Record.{exclusion}
 use Rattle.pom_record.proofs.dependencies.exclusions_of.Given as goal
 
 abbrev pub invariant-loop-child : goal.invariant-loop-child
-invariant-loop-child l = l.made ++ map exclusion (named (codes "exclusion") (drop l.child-index l.children)) ≡ map exclusion (named (codes "exclusion") l.children)
+invariant-loop-child l =
+    l.made ++ map exclusion (named (codes "exclusion") (drop l.child-index l.children))
+    ≡ map exclusion (named (codes "exclusion") l.children)
