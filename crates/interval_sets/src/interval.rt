@@ -83,7 +83,9 @@ impl<V: Ranked> End<V> {
         }
     }
 
-    fn leaves_nothing_to(&self, upper: &End<V>) -> bool
+    /// Whether nothing lies between this lower end and an upper one: they cross, or are equal and
+    /// not both included.
+    pub fn leaves_nothing_to(&self, upper: &End<V>) -> bool
         ensures { result ≡ leaves_nothing V.order self.now upper.now }
     {
         match (self, upper) {
@@ -97,13 +99,15 @@ impl<V: Ranked> End<V> {
     }
 }
 
-fn greatest_lower<'a, V: Ranked>(a: &'a End<V>, b: &'a End<V>) -> &'a End<V>
+/// The lower end that lets less through, or the first of two that tie.
+pub fn greater_lower<'a, V: Ranked>(a: &'a End<V>, b: &'a End<V>) -> &'a End<V>
     ensures { result.now ≡ greater_lower V.order a.now b.now }
 {
     if a.cmp_lower(b).is_lt() { b } else { a }
 }
 
-fn least_upper<'a, V: Ranked>(a: &'a End<V>, b: &'a End<V>) -> &'a End<V>
+/// The upper end that lets less through, or the first of two that tie.
+pub fn lesser_upper<'a, V: Ranked>(a: &'a End<V>, b: &'a End<V>) -> &'a End<V>
     ensures { result.now ≡ lesser_upper V.order a.now b.now }
 {
     if a.cmp_upper(b).is_gt() { b } else { a }
@@ -155,8 +159,8 @@ impl<V: Ranked> Interval<V> {
         ensures both { IfOk result (λ met. (v : V)
             → met_holds V.order met v ≡ (holds V.order self.now v && holds V.order other.now v)) }
     {
-        let lower = greatest_lower(&self.lower, &other.lower);
-        let upper = least_upper(&self.upper, &other.upper);
+        let lower = greater_lower(&self.lower, &other.lower);
+        let upper = lesser_upper(&self.upper, &other.upper);
         if lower.leaves_nothing_to(upper) {
             return Ok(None);
         }

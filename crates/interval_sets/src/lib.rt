@@ -5,6 +5,6 @@ mod interval;
 mod laws;
 mod ranked;
 
-pub use interval::{End, Interval};
+pub use interval::{End, Interval, greater_lower, lesser_upper};
 pub use laws::{common, one_side};
 pub use ranked::{NoMemory, Ranked};
