@@ -74,10 +74,12 @@ unless_passed (Some number) None otherwise = otherwise
 unless_passed None version otherwise = otherwise
 
 abbrev pub relaxed_within : Interval (List ℕ) → List PlainRequest → Option (List (List ℕ)) → Chosen
-relaxed_within common asked listed = unless_passed (first_above common asked) (greatest (versions_of asked)) (pick_within common asked listed)
+relaxed_within common asked listed =
+    unless_passed (first_above common asked) (greatest (versions_of asked)) (pick_within common asked listed)
 
 abbrev pub by_relaxed : List PlainRequest → List IntervalRequest → Option (List (List ℕ)) → Chosen
-by_relaxed asked ranges listed = unless_apart (last_apart (last_of ranges)) (relaxed_within (common_of (kept ranges)) asked listed)
+by_relaxed asked ranges listed =
+    unless_apart (last_apart (last_of ranges)) (relaxed_within (common_of (kept ranges)) asked listed)
 
 -- ---- the rules Strict and Semver
 
@@ -118,7 +120,8 @@ unless_bad (Some number) otherwise = Clashed (BadConstraint number)
 unless_bad None otherwise = otherwise
 
 abbrev pub choose_read : Rule → List (Option Constraint) → Option (List (List ℕ)) → Chosen
-choose_read rule read listed = unless_bad (first_bad read) (unless_any (list_all is_any read) (by_rule rule (plains read) (intervals read) listed))
+choose_read rule read listed =
+    unless_bad (first_bad read) (unless_any (list_all is_any read) (by_rule rule (plains read) (intervals read) listed))
 
 -- what is chosen, given the forced version and the listed versions that would do, where these are known
 abbrev pub choose_of : Rule → Option (List ℕ) → List Request → Option (List (List ℕ)) → Chosen

@@ -1,5 +1,5 @@
 -- The greatest of many versions.
-use Rattle.std.specs.Prelude.{ℕ, Option, Some, None, List, map, filter, fold, if◌then◌else◌}
+use Rattle.std.specs.Prelude.{◌≡◌, ℕ, false, Option, Some, None, List, map, filter, fold, if◌then◌else◌, Contains}
 use Rattle.std.specs.Ordering.{is_lt}
 use Rattle.interval_sets.specs.declared.interval.Interval.{Interval}
 use Rattle.interval_sets.specs.Intervals.{holds}
@@ -20,3 +20,8 @@ versions_of asked = map (λ r. r.version) asked
 -- those that an interval holds
 abbrev pub versions_within : Interval (List ℕ) → List PlainRequest → List (List ℕ)
 versions_within interval asked = filter (λ version. holds items_cmp interval version) (versions_of asked)
+
+-- one of the versions, and none of them is greater by the full order
+pub record IsGreatest (versions : List (List ℕ)) (version : List ℕ) : Type 0 where
+  pub member : Contains versions version
+  pub none_greater : (other : List ℕ) → Contains versions other → is_lt (full_cmp version other) ≡ false

@@ -11,4 +11,5 @@ has_none (x ∷ xs) = false
 
 abbrev pub IsRead : List (Option Constraint) → Read → Type 0
 IsRead read (Bad number) = first_bad read ≡ Some number
-IsRead read (Asked asked) = (first_bad read ≡ None) × ((asked.plains.items ≡ plains read) × (asked.intervals.items ≡ intervals read))
+IsRead read (Asked asked) =
+    (first_bad read ≡ None) × ((asked.plains.items ≡ plains read) × (asked.intervals.items ≡ intervals read))

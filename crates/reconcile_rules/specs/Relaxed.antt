@@ -1,5 +1,5 @@
 -- The intervals that the rule Relaxed keeps.
-use Rattle.std.specs.Prelude.{ℕ, Bool, true, not, Option, Some, None, List, filter, fold, if◌then◌else◌}
+use Rattle.std.specs.Prelude.{◌≡◌, ℕ, Bool, true, false, not, Option, Some, None, List, filter, fold, if◌then◌else◌, Contains}
 use Rattle.std.specs.declared.cmp.Ordering.{Ordering}
 use Rattle.std.specs.Ordering.{is_lt, nat_cmp, ordering_then}
 use Rattle.interval_sets.specs.declared.interval.Interval.{Interval}
@@ -15,11 +15,12 @@ drop_cmp a b = ordering_then (ends_cmp items_cmp a.interval b.interval) (nat_cmp
 abbrev pub is_before : IntervalRequest → IntervalRequest → Bool
 is_before a b = is_lt (drop_cmp a b)
 
--- this one and those behind it in that order
+-- this one and those after it in that order
 abbrev pub from_on : IntervalRequest → List IntervalRequest → List IntervalRequest
 from_on r asked = filter (λ other. not (is_before other r)) asked
 
--- Intervals are dropped from the front of that order until the rest have a version in common: one is kept where it and those behind it have.
+-- Intervals are dropped, the first in that order first, until the rest have a version in common: one is kept where it
+-- and those after it have.
 abbrev pub is_kept : List IntervalRequest → IntervalRequest → Bool
 is_kept asked r = not (is_empty items_cmp (common_of (from_on r asked)))
 
@@ -38,11 +39,20 @@ last_of asked = fold later_of None asked
 abbrev pub apart_from : Interval (List ℕ) → List IntervalRequest → List IntervalRequest
 apart_from interval asked = filter (λ r. are_apart items_cmp r.interval interval) asked
 
-abbrev pub is_behind : Option IntervalRequest → IntervalRequest → Bool
-is_behind None r = true
-is_behind (Some dropped) r = is_before dropped r
+abbrev pub is_after : Option IntervalRequest → IntervalRequest → Bool
+is_after None r = true
+is_after (Some dropped) r = is_before dropped r
 
 -- The last one that is dropped, given the last of all: the last that has nothing in common with it.
 abbrev pub dropped_of : Option IntervalRequest → List IntervalRequest → Option IntervalRequest
 dropped_of None asked = None
 dropped_of (Some last) asked = last_of (apart_from last.interval asked)
+
+-- A rest is what is left where intervals are dropped in that order. These are the longest rest that has a version in
+-- common: with one kept all after it are, they have a version in common, and from any dropped one on they have none.
+pub record IsLongestRest (asked : List IntervalRequest) (keeps : IntervalRequest → Bool) : Type 0 where
+  pub is_rest : (r other : IntervalRequest) → Contains asked r → Contains asked other → keeps r ≡ true
+      → is_before other r ≡ false → keeps other ≡ true
+  pub in_common : is_empty items_cmp (common_of (filter keeps asked)) ≡ false
+  pub longest : (r : IntervalRequest) → Contains asked r → keeps r ≡ false
+      → is_empty items_cmp (common_of (from_on r asked)) ≡ true

@@ -1,6 +1,6 @@
 //! Which plain versions accept a chosen one.
 ghost use Rattle.std.specs.Prelude.{◌≡◌, IfOk};
-ghost use Rattle.reconcile_rules.specs.Choose.{first_refusing as number_refusing, where_accepted as accepted};
+ghost use Rattle.reconcile_rules.specs.Choose.{first_refusing, where_accepted};
 ghost use Rattle.reconcile_rules.specs.Accept.{accepts_by};
 
 use super::request::{Chosen, Clash, PlainRequest};
@@ -29,7 +29,7 @@ impl Accepts {
 
 /// The number of the first plain version that does not accept the chosen one.
 fn first_refusing(by: Accepts, chosen: &Version, plains: &[PlainRequest]) -> Option<u64>
-    ensures { result ≡ number_refusing (accepts_by by) chosen.now plains.now }
+    ensures { result ≡ first_refusing (accepts_by by) chosen.now plains.now }
 {
     for request in plains {
         if !by.test(chosen, &request.version) {
@@ -46,7 +46,7 @@ pub(crate) fn where_accepted(
     chosen: Chosen,
     plains: &[PlainRequest],
 ) -> Result<Chosen, NoMemory>
-    ensures { IfOk result (λ made. made ≡ accepted (accepts_by by) plains.now chosen) }
+    ensures { IfOk result (λ made. made ≡ where_accepted (accepts_by by) plains.now chosen) }
 {
     match chosen {
         Chosen::Version(text) => {

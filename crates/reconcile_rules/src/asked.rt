@@ -2,8 +2,8 @@
 ghost use Rattle.std.specs.Prelude.{◌≡◌, ◌++◌, ◌&&◌, List, Some, OnOk, IfOk};
 ghost use Rattle.reconcile_rules.specs.Asked.{constraints, onto_plains, onto_intervals};
 ghost use Rattle.reconcile_rules.specs.Reads.{IsRead, has_none};
-ghost use Rattle.reconcile_rules.specs.declared.request.PlainRequest.{PlainRequest as Plain};
-ghost use Rattle.reconcile_rules.specs.declared.request.IntervalRequest.{IntervalRequest as Range};
+ghost use Rattle.reconcile_rules.specs.declared.request.PlainRequest.{PlainRequest};
+ghost use Rattle.reconcile_rules.specs.declared.request.IntervalRequest.{IntervalRequest};
 
 use super::request::{IntervalRequest, PlainRequest, Request};
 use interval_sets::NoMemory;
@@ -32,10 +32,12 @@ impl Asked {
         self.plains.is_empty() && self.intervals.is_empty()
     }
 
-    /// Puts a request for this constraint behind the others.
+    /// Puts a request for this constraint after the others.
     fn add(&mut self, number: u64, constraint: Constraint) -> Result<(), NoMemory>
-        ensures plains { OnOk result ((rest : List Plain) → self.new.plains.items ++ rest ≡ self.old.plains.items ++ onto_plains number (Some constraint) rest) }
-        ensures intervals { OnOk result ((rest : List Range) → self.new.intervals.items ++ rest ≡ self.old.intervals.items ++ onto_intervals number (Some constraint) rest) }
+        ensures plains { OnOk result ((rest : List PlainRequest) →
+            self.new.plains.items ++ rest ≡ self.old.plains.items ++ onto_plains number (Some constraint) rest) }
+        ensures intervals { OnOk result ((rest : List IntervalRequest) →
+            self.new.intervals.items ++ rest ≡ self.old.intervals.items ++ onto_intervals number (Some constraint) rest) }
     {
         match constraint {
             Constraint::Any => Ok(()),

@@ -1,7 +1,7 @@
 //! The greatest of many versions by the full order.
 ghost use Rattle.std.specs.Prelude.{◌≡◌, Some, IfOk};
 ghost use Rattle.std.specs.Option.{option_copied};
-ghost use Rattle.reconcile_rules.specs.Greatest.{greater_of, greatest as greatest_of, versions_of, versions_within};
+ghost use Rattle.reconcile_rules.specs.Greatest.{greater_of, greatest, versions_of, versions_within};
 
 use super::request::PlainRequest;
 use interval_sets::{Interval, NoMemory};
@@ -27,7 +27,7 @@ fn greater<'a>(best: Option<&'a Version>, version: &'a Version) -> Option<&'a Ve
 
 /// The greatest plain version that is asked for.
 pub(crate) fn greatest<'a>(asked: &'a [PlainRequest]) -> Option<&'a Version>
-    ensures { option_copied result ≡ greatest_of (versions_of asked.now) }
+    ensures { option_copied result ≡ greatest (versions_of asked.now) }
 {
     let mut best: Option<&'a Version> = None;
     for request in asked {
@@ -41,7 +41,7 @@ pub(crate) fn greatest_within<'a>(
     common: &Interval<Version>,
     asked: &'a [PlainRequest],
 ) -> Option<&'a Version>
-    ensures { option_copied result ≡ greatest_of (versions_within common.now asked.now) }
+    ensures { option_copied result ≡ greatest (versions_within common.now asked.now) }
 {
     let mut best: Option<&'a Version> = None;
     for request in asked {
@@ -70,7 +70,7 @@ fn later(best: Option<Version>, version: Version) -> Version
 
 /// The greatest of the listed versions.
 pub(crate) fn greatest_listed(alloc: Global, listed: &[Text]) -> Result<Option<Version>, NoMemory>
-    ensures { IfOk result (λ best. best ≡ greatest_of listed.now) }
+    ensures { IfOk result (λ best. best ≡ greatest listed.now) }
 {
     let mut best = None;
     for text in listed {

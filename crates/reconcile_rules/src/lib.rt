@@ -12,6 +12,11 @@ mod rules;
 #[cfg(test)]
 mod tests;
 
-pub use laws::{apart_exactly, choices_stay};
-pub use request::{Asker, Chosen, Clash, Request, Rule};
+pub use laws::{
+    apart_exactly, choices_stay, greatest_version, least_pair, longest_rest, unforced_versions,
+};
+pub use request::{
+    Asker, Chosen, Clash, Request, Rule, is_same_asker, is_same_clash, is_same_request,
+    is_same_rule,
+};
 pub use rules::choose;

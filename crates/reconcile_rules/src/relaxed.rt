@@ -4,7 +4,7 @@ ghost use Rattle.std.specs.Option.{option_copied};
 ghost use Rattle.interval_sets.specs.Intervals.{meet_of};
 ghost use Rattle.version_order.specs.Ranks.{items_cmp};
 ghost use Rattle.reconcile_rules.specs.Apart.{common_of, unless_empty, IsCommon};
-ghost use Rattle.reconcile_rules.specs.Relaxed.{drop_cmp, later_of, last_of, apart_from, is_behind as stands_behind, dropped_of, kept};
+ghost use Rattle.reconcile_rules.specs.Relaxed.{drop_cmp, later_of, last_of, apart_from, is_after, dropped_of, kept};
 
 use super::apart::are_apart;
 use super::request::IntervalRequest;
@@ -55,23 +55,22 @@ pub(crate) fn last<'a>(asked: &'a [IntervalRequest]) -> Option<&'a IntervalReque
 
 /// The last interval that has nothing in common with this one.
 fn last_apart<'a>(
-    alloc: Global,
     asked: &'a [IntervalRequest],
     interval: &Interval<Version>,
-) -> Result<Option<&'a IntervalRequest>, NoMemory>
-    ensures { IfOk result (λ found. option_copied found ≡ last_of (apart_from interval.now asked.now)) }
+) -> Option<&'a IntervalRequest>
+    ensures { option_copied result ≡ last_of (apart_from interval.now asked.now) }
 {
     let mut last: Option<&'a IntervalRequest> = None;
     for request in asked {
-        if are_apart(alloc, &request.interval, interval)? {
+        if are_apart(&request.interval, interval) {
             last = later(last, request);
         }
     }
-    Ok(last)
+    last
 }
 
-fn is_behind(dropped: Option<&IntervalRequest>, request: &IntervalRequest) -> bool
-    ensures { result ≡ stands_behind (option_copied dropped.entry) request.now }
+fn is_after(dropped: Option<&IntervalRequest>, request: &IntervalRequest) -> bool
+    ensures { result ≡ is_after (option_copied dropped.entry) request.now }
 {
     match dropped {
         None => true,
@@ -79,38 +78,41 @@ fn is_behind(dropped: Option<&IntervalRequest>, request: &IntervalRequest) -> bo
     }
 }
 
-/// What a request that stands behind a dropped one leaves of an interval, or `None` where that is
+/// What a request that stands after a dropped one leaves of an interval, or `None` where that is
 /// nothing.
-fn met_behind(
+fn met_after(
     alloc: Global,
     made: Interval<Version>,
     request: &IntervalRequest,
     dropped: Option<&IntervalRequest>,
 ) -> Result<Option<Interval<Version>>, NoMemory>
-    ensures { IfOk result (λ met. met ≡ (if stands_behind (option_copied dropped.entry) request.now then meet_of items_cmp made request.now.interval else Some made)) }
+    ensures { let goes_on = is_after (option_copied dropped.entry) request.now in
+        let whole = if goes_on then meet_of items_cmp made request.now.interval else Some made in
+        IfOk result (λ met. met ≡ whole) }
 {
-    if is_behind(dropped, request) {
+    if is_after(dropped, request) {
         made.meet(alloc, &request.interval)
     } else {
         Ok(Some(made))
     }
 }
 
-/// What the intervals behind a dropped one have in common, or `None` where they have nothing in
+/// What the intervals after a dropped one have in common, or `None` where they have nothing in
 /// common.
-fn common_behind(
+fn common_after(
     alloc: Global,
     asked: &[IntervalRequest],
     dropped: Option<&IntervalRequest>,
 ) -> Result<Option<Interval<Version>>, NoMemory>
-    ensures { IfOk result (λ met. met ≡ unless_empty (common_of (filter (stands_behind (option_copied dropped.entry)) asked.now))) }
+    ensures { let rest = filter (is_after (option_copied dropped.entry)) asked.now in
+        IfOk result (λ met. met ≡ unless_empty (common_of rest)) }
 {
     let mut made = Interval {
         lower: End::Free,
         upper: End::Free,
     };
     for request in asked {
-        match met_behind(alloc, made, request, dropped)? {
+        match met_after(alloc, made, request, dropped)? {
             None => return Ok(None),
             Some(met) => made = met,
         }
@@ -126,21 +128,20 @@ pub(crate) fn all_common(
     ensures { IfOk result (IsCommon asked.now) }
 {
     common::<Version>();
-    let met = common_behind(alloc, asked, None)?;
+    let met = common_after(alloc, asked, None)?;
     Ok(met)
 }
 
 /// The last interval that is dropped, given the last of all.
 fn last_dropped<'a>(
-    alloc: Global,
     asked: &'a [IntervalRequest],
     last: Option<&IntervalRequest>,
-) -> Result<Option<&'a IntervalRequest>, NoMemory>
-    ensures { IfOk result (λ found. option_copied found ≡ dropped_of (option_copied last.entry) asked.now) }
+) -> Option<&'a IntervalRequest>
+    ensures { option_copied result ≡ dropped_of (option_copied last.entry) asked.now }
 {
     match last {
-        None => Ok(None),
-        Some(last) => last_apart(alloc, asked, &last.interval),
+        None => None,
+        Some(last) => last_apart(asked, &last.interval),
     }
 }
 
@@ -155,8 +156,8 @@ pub(crate) fn kept_common(
 {
     common::<Version>();
     one_side::<Version>();
-    let dropped = last_dropped(alloc, asked, last)?;
-    match common_behind(alloc, asked, dropped)? {
+    let dropped = last_dropped(asked, last);
+    match common_after(alloc, asked, dropped)? {
         Some(common) => Ok(common),
         None => unreachable!(),
     }

@@ -1,4 +1,6 @@
 //! What is asked of a module's version, and what comes of it.
+ghost use Rattle.std.specs.Prelude.{◌≡◌, ◌↔◌, IsTrue};
+
 use interval_sets::Interval;
 use res_base::{Coord, Copied, NoMemory, Text};
 use std::alloc::Global;
@@ -52,6 +54,27 @@ impl Copied for Request {
     }
 }
 
+/// Whether two ask as one: the same root, or the same project.
+pub fn is_same_asker(one: &Asker, other: &Asker) -> bool
+    ensures { IsTrue result ↔ (one.now ≡ other.now) }
+{
+    *one == *other
+}
+
+/// Whether two requests are one: the same text, from the same asker.
+pub fn is_same_request(one: &Request, other: &Request) -> bool
+    ensures { IsTrue result ↔ (one.now ≡ other.now) }
+{
+    *one == *other
+}
+
+/// Whether two rules are one.
+pub fn is_same_rule(one: Rule, other: Rule) -> bool
+    ensures { IsTrue result ↔ (one ≡ other) }
+{
+    one == other
+}
+
 /// Why no version was chosen, with the numbers of requests.
 #[derive(Clone, Copy, Debug, PartialEq, Eq, Drop)]
 pub enum Clash {
@@ -69,6 +92,19 @@ pub enum Clash {
     BadConstraint(u64),
 }
 
+impl Copied for Clash {
+    fn copy(&self, _: Global) -> Result<Clash, NoMemory> {
+        Ok(*self)
+    }
+}
+
+/// Whether two clashes are one: of the same kind, with the same numbers.
+pub fn is_same_clash(one: Clash, other: Clash) -> bool
+    ensures { IsTrue result ↔ (one ≡ other) }
+{
+    one == other
+}
+
 /// What comes of the requests for a module.
 #[derive(Drop)]
 pub enum Chosen {
@@ -76,6 +112,19 @@ pub enum Chosen {
     /// No request names a version in this interval, so a listed one is to be chosen.
     NeedsListing(Interval<Version>),
     Clash(Clash),
+}
+
+impl Copied for Chosen {
+    fn copy(&self, alloc: Global) -> Result<Chosen, NoMemory> {
+        match self {
+            Chosen::Version(text) => Ok(Chosen::Version(text.copy(alloc)?)),
+            Chosen::NeedsListing(interval) => match interval.copy(alloc) {
+                Ok(made) => Ok(Chosen::NeedsListing(made)),
+                Err(_) => Err(NoMemory),
+            },
+            Chosen::Clash(clash) => Ok(Chosen::Clash(*clash)),
+        }
+    }
 }
 
 /// A request for a plain version, with its number.

@@ -2,7 +2,7 @@
 ghost use Rattle.std.specs.Prelude.{◌≡◌, IfOk};
 ghost use Rattle.std.specs.Option.{option_copied};
 ghost use Rattle.reconcile_rules.specs.Asked.{constraints};
-ghost use Rattle.reconcile_rules.specs.Choose.{choose_of, choose_read, by_rule as ruled, by_default as default_choice, by_relaxed as relaxed_choice, default_within as default_pick, relaxed_within as relaxed_pick, pick_within as picked_within, from_listed, first_above as number_above, last_apart};
+ghost use Rattle.reconcile_rules.specs.Choose.{choose_of, choose_read, by_default, by_relaxed, by_rule, default_within, first_above, from_listed, last_apart, pick_within, relaxed_within};
 ghost use Rattle.reconcile_rules.specs.declared.request.Chosen.TheVariants.{Version as Picked};
 
 use super::accept::{Accepts, where_accepted};
@@ -11,12 +11,12 @@ use super::asked::{Asked, Read, read_all};
 use super::greatest::{greatest, greatest_listed, greatest_within};
 use super::relaxed::{all_common, kept_common, last};
 use super::request::{Chosen, Clash, IntervalRequest, PlainRequest, Request, Rule};
-use interval_sets::{Interval, NoMemory as Wanting};
+use interval_sets::{Interval, NoMemory as OutOfMemory};
 use res_base::{List, NoMemory, Text};
 use std::alloc::Global;
 use version_order::Version;
 
-fn picked(alloc: Global, version: &Version) -> Result<Chosen, Wanting>
+fn picked(alloc: Global, version: &Version) -> Result<Chosen, OutOfMemory>
     ensures { IfOk result (λ made. made ≡ Picked version.now) }
 {
     let text = String::from_str(alloc, version.text())?;
@@ -25,7 +25,7 @@ fn picked(alloc: Global, version: &Version) -> Result<Chosen, Wanting>
 
 /// The number of the first plain version above an interval.
 fn first_above(common: &Interval<Version>, asked: &[PlainRequest]) -> Option<u64>
-    ensures { result ≡ number_above common.now asked.now }
+    ensures { result ≡ first_above common.now asked.now }
 {
     for request in asked {
         if common.above(&request.version) {
@@ -39,7 +39,7 @@ fn pick_listed(
     alloc: Global,
     common: Interval<Version>,
     listed: Option<&List<Text>>,
-) -> Result<Chosen, Wanting>
+) -> Result<Chosen, OutOfMemory>
     ensures { IfOk result (λ made. made ≡ from_listed common (option_copied listed.entry)) }
 {
     match listed {
@@ -56,8 +56,8 @@ fn pick_within(
     common: Interval<Version>,
     plains: &[PlainRequest],
     listed: Option<&List<Text>>,
-) -> Result<Chosen, Wanting>
-    ensures { IfOk result (λ made. made ≡ picked_within common plains.now (option_copied listed.entry)) }
+) -> Result<Chosen, OutOfMemory>
+    ensures { IfOk result (λ made. made ≡ pick_within common plains.now (option_copied listed.entry)) }
 {
     match greatest_within(&common, plains) {
         Some(version) => picked(alloc, version),
@@ -70,8 +70,8 @@ fn default_within(
     common: Interval<Version>,
     plains: &[PlainRequest],
     listed: Option<&List<Text>>,
-) -> Result<Chosen, Wanting>
-    ensures { IfOk result (λ made. made ≡ default_pick common plains.now (option_copied listed.entry)) }
+) -> Result<Chosen, OutOfMemory>
+    ensures { IfOk result (λ made. made ≡ default_within common plains.now (option_copied listed.entry)) }
 {
     match first_above(&common, plains) {
         Some(number) => Ok(Chosen::Clash(Clash::Above(number))),
@@ -79,11 +79,16 @@ fn default_within(
     }
 }
 
-fn by_default(alloc: Global, asked: &Asked, listed: Option<&List<Text>>) -> Result<Chosen, Wanting>
-    ensures { IfOk result (λ made. made ≡ default_choice asked.now.plains.items asked.now.intervals.items (option_copied listed.entry)) }
+fn by_default(
+    alloc: Global,
+    asked: &Asked,
+    listed: Option<&List<Text>>,
+) -> Result<Chosen, OutOfMemory>
+    ensures { let known = option_copied listed.entry in
+        IfOk result (λ made. made ≡ by_default asked.now.plains.items asked.now.intervals.items known) }
 {
     match all_common(alloc, asked.intervals.as_slice())? {
-        None => match least_apart(alloc, asked.intervals.as_slice())? {
+        None => match least_apart(asked.intervals.as_slice()) {
             Some(clash) => Ok(Chosen::Clash(clash)),
             None => unreachable!(),
         },
@@ -96,8 +101,8 @@ fn relaxed_within(
     common: Interval<Version>,
     plains: &[PlainRequest],
     listed: Option<&List<Text>>,
-) -> Result<Chosen, Wanting>
-    ensures { IfOk result (λ made. made ≡ relaxed_pick common plains.now (option_copied listed.entry)) }
+) -> Result<Chosen, OutOfMemory>
+    ensures { IfOk result (λ made. made ≡ relaxed_within common plains.now (option_copied listed.entry)) }
 {
     match first_above(&common, plains) {
         None => pick_within(alloc, common, plains, listed),
@@ -124,8 +129,13 @@ fn last_clash(last: Option<&IntervalRequest>) -> Option<Clash>
     }
 }
 
-fn by_relaxed(alloc: Global, asked: &Asked, listed: Option<&List<Text>>) -> Result<Chosen, Wanting>
-    ensures { IfOk result (λ made. made ≡ relaxed_choice asked.now.plains.items asked.now.intervals.items (option_copied listed.entry)) }
+fn by_relaxed(
+    alloc: Global,
+    asked: &Asked,
+    listed: Option<&List<Text>>,
+) -> Result<Chosen, OutOfMemory>
+    ensures { let known = option_copied listed.entry in
+        IfOk result (λ made. made ≡ by_relaxed asked.now.plains.items asked.now.intervals.items known) }
 {
     let intervals = asked.intervals.as_slice();
     let last = last(intervals);
@@ -143,8 +153,9 @@ fn by_rule(
     rule: Rule,
     asked: &Asked,
     listed: Option<&List<Text>>,
-) -> Result<Chosen, Wanting>
-    ensures { IfOk result (λ made. made ≡ ruled rule asked.now.plains.items asked.now.intervals.items (option_copied listed.entry)) }
+) -> Result<Chosen, OutOfMemory>
+    ensures { let known = option_copied listed.entry in
+        IfOk result (λ made. made ≡ by_rule rule asked.now.plains.items asked.now.intervals.items known) }
 {
     let plains = asked.plains.as_slice();
     match rule {
@@ -166,7 +177,7 @@ fn choose_unforced(
     rule: Rule,
     requests: &[Request],
     listed: Option<&List<Text>>,
-) -> Result<Chosen, Wanting>
+) -> Result<Chosen, OutOfMemory>
     ensures { IfOk result (λ made. made ≡ choose_read rule (constraints requests.now) (option_copied listed.entry)) }
 {
     match read_all(alloc, requests)? {
@@ -210,7 +221,8 @@ pub fn choose(
     requests: &List<Request>,
     listed: Option<&List<Text>>,
 ) -> Result<Chosen, NoMemory>
-    ensures { IfOk result (λ chosen. chosen ≡ choose_of rule (option_copied forced.entry) requests.now (option_copied listed.entry)) }
+    ensures { let version = option_copied forced.entry in
+        IfOk result (λ chosen. chosen ≡ choose_of rule version requests.now (option_copied listed.entry)) }
 {
     match forced {
         Some(version) => Ok(Chosen::Version(Text::of(alloc, version.as_str())?)),

@@ -48,14 +48,26 @@ fn chosen_versions(rt: HostRuntime) -> Result<(), Fail> {
     assert!(rt; is_chosen(alloc, Relaxed, &["[1,2)", "1.5", "2.5"], &[], "2.5")?);
     assert!(rt; is_chosen(alloc, Strict, &["1.0", "1-ga", "[1,2]"], &[], "1.0")?);
     assert!(rt; is_chosen(alloc, Semver, &["1.0", "1.1"], &[], "1.1")?);
+    let many = &["1.0", "[1,3)", "1.2", "", "[1.1,2)", "1.10", " 1.3 ", "0.9"];
+    assert!(rt; is_chosen(alloc, Default, many, &[], "1.10")?);
     Ok(())
 }
 
 #[test]
 fn clashes(rt: HostRuntime) -> Result<(), Fail> {
-    let rows: [(Rule, &[&str], Clash); 10] = [
+    let rows: [(Rule, &[&str], Clash); 12] = [
         (Rule::Default, &["[2,1]"], Clash::Apart(0, 0)),
         (Rule::Default, &["1", "[1,2)", "[3,4)"], Clash::Apart(1, 2)),
+        (
+            Rule::Default,
+            &["1", "[1,2)", "[1.5,3)", "1.6", "[1.7,1.8]", "", "[1.9,2)"],
+            Clash::Apart(4, 6),
+        ),
+        (
+            Rule::Default,
+            &["[1,5]", "2", "[4,9]", "", "[3,3)", "1", "[2,3]"],
+            Clash::Apart(0, 4),
+        ),
         (Rule::Relaxed, &["[1,2)", "[2,1]"], Clash::Apart(1, 1)),
         (Rule::Default, &["[1.0,2.0)", "2.0"], Clash::Above(1)),
         (Rule::Strict, &["1.0", "1.1"], Clash::NotAccepted(0)),

@@ -6,7 +6,9 @@ use Rattle.reconcile_rules.proofs.rules.choose_unforced.Goals as goal
 
 pub returns-then-is_empty : goal.returns-then-is_empty
 returns-then-is_empty c =
-    none_named c.args.rule (constraints c.args.requests.now) (option_copied c.args.listed) c.in_ok-number.field-0 c.in-Asked.asked c.in_ok-number.ensures c.in-Asked.is (sym c.if-is_empty.true ∙ c.is_empty.ensures)
+    none_named c.args.rule (constraints c.args.requests.now)
+    (option_copied c.args.listed) c.in_ok-number.field-0 c.in-Asked.asked c.in_ok-number.ensures c.in-Asked.is
+    (sym c.if-is_empty.true ∙ c.is_empty.ensures)
 
 pub returns-else-is_empty : goal.returns-else-is_empty
 returns-else-is_empty c =
