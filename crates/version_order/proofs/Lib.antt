@@ -1,3 +1,4 @@
+-- Lemmas of items, of ranks and of the reading of constraints.
 mod Bounds
 mod Cutting
 mod Ends
@@ -6,5 +7,4 @@ mod Plain
 pub mod Reading
 mod Slices
 mod Steps
-mod Trimming
 mod Words

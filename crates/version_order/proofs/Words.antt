@@ -18,9 +18,12 @@ ascii_text bs e = IsUtf8-from_ascii bs (ascii bs e)
   where
     ascii : (bs : List ℕ) → is_ascii bs ≡ true → IsAscii bs
     ascii [] e = IsAscii-nil
-    ascii (b ∷ bs) e = let both = and_parts (nat_lt b 128) (is_ascii bs) e in IsAscii-cons b bs (ltb-true b 128 both.0) (ascii bs both.1)
+    ascii (b ∷ bs) e =
+        let both = and_parts (nat_lt b 128) (is_ascii bs) e in
+        IsAscii-cons b bs (ltb-true b 128 both.0) (ascii bs both.1)
 
-unfound : {T : Type 0} (rows : List (List ℕ × T)) (word : List ℕ) → list_all (λ row. is_ascii row.0) rows ≡ true → (IsUtf8 word → ⊥) → value_at word rows ≡ None
+unfound : {T : Type 0} (rows : List (List ℕ × T)) (word : List ℕ) → list_all (λ row. is_ascii row.0) rows ≡ true
+    → (IsUtf8 word → ⊥) → value_at word rows ≡ None
 unfound [] word e foreign = refl
 unfound (row ∷ rows) word e foreign =
     let both = and_parts (is_ascii row.0) (list_all (λ r. is_ascii r.0) rows) e in

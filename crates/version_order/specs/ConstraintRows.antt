@@ -32,10 +32,12 @@ no_text = refl
 pub plain : reads constraint_reader (codes "1.0-RC+1") begin ≡ Some (Plain (codes "1.0-RC+1"))
 plain = refl
 
-pub backwards : reads constraint_reader (codes "[2,1]") begin ≡ Some (Within (interval_of true (Some (codes "2")) (Some (codes "1")) true))
+pub backwards : reads constraint_reader (codes "[2,1]") begin
+    ≡ Some (Within (interval_of true (Some (codes "2")) (Some (codes "1")) true))
 backwards = refl
 
-pub half_open : reads constraint_reader (codes "(,1.0]") begin ≡ Some (Within (interval_of false None (Some (codes "1.0")) true))
+pub half_open : reads constraint_reader (codes "(,1.0]") begin
+    ≡ Some (Within (interval_of false None (Some (codes "1.0")) true))
 half_open = refl
 
 pub single : reads constraint_reader (codes "[ 1.0\t]") begin ≡ Some (Within (only (codes "1.0")))

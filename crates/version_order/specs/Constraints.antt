@@ -1,43 +1,19 @@
 -- What a constraint's text is, and what it says.
-use Rattle.std.specs.Prelude.{◌≡◌, ℕ, Bool, true, false, not, ◌&&◌, ◌||◌, ◌⊎◌, if◌then◌else◌, List, [], ◌∷◌, ◌++◌, Option, Some, None, codes, nat_le, ◌==◌, slice_index, length, ◌-◌}
+use Rattle.std.specs.Prelude.{◌≡◌, ℕ, Bool, true, false, not, ◌&&◌, ◌||◌, ◌⊎◌, if◌then◌else◌, List, [], ◌∷◌, ◌++◌, Option, Some, None, codes, ◌==◌, slice_index, length, ◌-◌}
 use Rattle.std.specs.List.{list_all}
 use Rattle.std.specs.Str.{bytes_eq}
+use Rattle.ascii_bytes.specs.Classes.{is_blank, is_plain_byte, is_white}
+use Rattle.ascii_bytes.specs.Parts.{trim}
+use Rattle.ascii_bytes.specs.Signs.{closing_bracket, closing_parenthesis, comma, opening_bracket, opening_parenthesis, plus}
 use Rattle.interval_sets.specs.declared.interval.End.{End}
 use Rattle.interval_sets.specs.declared.interval.End.TheVariants.{Free, With, Without}
 use Rattle.interval_sets.specs.declared.interval.Interval.{Interval}
 use Rattle.version_order.specs.declared.constraint.Constraint.{Constraint}
 use Rattle.version_order.specs.declared.constraint.Constraint.TheVariants.{Any, Plain, Within}
 
-abbrev pub between : ℕ → ℕ → ℕ → Bool
-between low high c = nat_le low c && nat_le c high
-
--- A-Z a-z 0-9 . _ - +
-abbrev pub is_plain_byte : ℕ → Bool
-is_plain_byte c = between 65 90 c || (between 97 122 c || (between 48 57 c || (c == 46 || (c == 95 || (c == 45 || c == 43)))))
-
--- space and tab
-abbrev pub is_blank : ℕ → Bool
-is_blank c = c == 32 || c == 9
-
--- space, tab, line feed and carriage return
-abbrev pub is_white : ℕ → Bool
-is_white c = c == 32 || (c == 9 || (c == 10 || c == 13))
-
-abbrev pub cut_front : List ℕ → List ℕ
-cut_front [] = []
-cut_front (c ∷ text) = if is_white c then cut_front text else c ∷ text
-
-abbrev pub keep_end : ℕ → List ℕ → List ℕ
-keep_end c [] = if is_white c then [] else c ∷ []
-keep_end c (d ∷ rest) = c ∷ (d ∷ rest)
-
-abbrev pub cut_end : List ℕ → List ℕ
-cut_end [] = []
-cut_end (c ∷ text) = keep_end c (cut_end text)
-
 -- white space is cut at both ends
 abbrev pub trimmed : List ℕ → List ℕ
-trimmed text = cut_front (cut_end text)
+trimmed text = trim is_white text
 
 abbrev pub has_some : List ℕ → Bool
 has_some [] = false
@@ -51,19 +27,21 @@ abbrev pub last_byte : List ℕ → ℕ
 last_byte text = slice_index text (length text - 1)
 
 abbrev pub is_reserved : List ℕ → Bool
-is_reserved text = bytes_eq text (codes "latest.release") || (bytes_eq text (codes "latest.integration") || (bytes_eq text (codes "LATEST") || bytes_eq text (codes "RELEASE")))
+is_reserved text =
+    bytes_eq text (codes "latest.release")
+    || (bytes_eq text (codes "latest.integration") || (bytes_eq text (codes "LATEST") || bytes_eq text (codes "RELEASE")))
 
 -- a plain version does not end in +, and is none of the reserved words
 abbrev pub is_plain : List ℕ → Bool
-is_plain text = is_bound text && (not (last_byte text == 43) && not (is_reserved text))
+is_plain text = is_bound text && (not (last_byte text == plus) && not (is_reserved text))
 
--- a bound with blanks before and behind it
+-- a bound with blanks before and after it
 pub record IsPadded (text bound : List ℕ) : Type 0 where
   pub before : List ℕ
-  pub behind : List ℕ
-  pub whole : text ≡ before ++ (bound ++ behind)
+  pub after : List ℕ
+  pub whole : text ≡ before ++ (bound ++ after)
   pub blank_before : list_all is_blank before ≡ true
-  pub blank_behind : list_all is_blank behind ≡ true
+  pub blank_after : list_all is_blank after ≡ true
   pub bounds : is_bound bound ≡ true
 
 abbrev pub IsOptional : List ℕ → Option (List ℕ) → Type 0
@@ -72,10 +50,10 @@ IsOptional text (Some bound) = IsPadded text bound
 
 -- [ or (, and ] or )
 abbrev pub opening : Bool → ℕ
-opening square = if square then 91 else 40
+opening square = if square then opening_bracket else opening_parenthesis
 
 abbrev pub closing : Bool → ℕ
-closing square = if square then 93 else 41
+closing square = if square then closing_bracket else closing_parenthesis
 
 -- a square bracket includes its bound, a round one does not, and an absent bound is free
 abbrev pub end_of : Bool → Option (List ℕ) → End (List ℕ)
@@ -97,7 +75,7 @@ pub record IsPair (text : List ℕ) (interval : Interval (List ℕ)) : Type 0 wh
   pub upper : Option (List ℕ)
   pub low : List ℕ
   pub high : List ℕ
-  pub whole : text ≡ opening square ∷ (low ++ 44 ∷ (high ++ closing square_end ∷ []))
+  pub whole : text ≡ opening square ∷ (low ++ comma ∷ (high ++ closing square_end ∷ []))
   pub is_low : IsOptional low lower
   pub is_high : IsOptional high upper
   pub says : interval_of square lower upper square_end ≡ interval
@@ -106,7 +84,7 @@ pub record IsPair (text : List ℕ) (interval : Interval (List ℕ)) : Type 0 wh
 pub record IsSingle (text : List ℕ) (interval : Interval (List ℕ)) : Type 0 where
   pub bound : List ℕ
   pub inner : List ℕ
-  pub whole : text ≡ 91 ∷ (inner ++ 93 ∷ [])
+  pub whole : text ≡ opening_bracket ∷ (inner ++ closing_bracket ∷ [])
   pub is_inner : IsPadded inner bound
   pub says : only bound ≡ interval
 

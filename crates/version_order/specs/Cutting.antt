@@ -1,7 +1,8 @@
 -- Items cut in one pass: a piece that has begun, and what is left of the text.
 use Rattle.std.specs.Prelude.{ℕ, Bool, false, not, ◌||◌, if◌then◌else◌, List, [], ◌∷◌, ◌++◌}
 use Rattle.std.specs.Bool.{beq}
-use Rattle.version_order.specs.Items.{is_digit, is_separator}
+use Rattle.ascii_bytes.specs.Classes.{is_digit}
+use Rattle.version_order.specs.Items.{is_separator}
 
 -- a digit meets another character
 abbrev pub breaks : List ℕ → ℕ → Bool

@@ -1,15 +1,13 @@
 -- The items of a version's text.
-use Rattle.std.specs.Prelude.{ℕ, Bool, true, ◌&&◌, ◌||◌, List, [], ◌∷◌, nat_le, ◌==◌, flat_map}
+use Rattle.std.specs.Prelude.{ℕ, Bool, true, ◌||◌, List, [], ◌∷◌, ◌==◌, flat_map}
 use Rattle.std.specs.Bool.{beq}
 use Rattle.std.specs.List.{slice_split}
-
--- 0 to 9
-abbrev pub is_digit : ℕ → Bool
-is_digit c = nat_le 48 c && nat_le c 57
+use Rattle.ascii_bytes.specs.Classes.{is_digit}
+use Rattle.ascii_bytes.specs.Signs.{dash, dot, plus, underscore}
 
 -- . - _ +
 abbrev pub is_separator : ℕ → Bool
-is_separator c = c == 46 || (c == 45 || (c == 95 || c == 43))
+is_separator c = c == dot || (c == dash || (c == underscore || c == plus))
 
 -- a character before the runs of a piece: it begins the first run, or is a run of its own
 abbrev pub before_runs : ℕ → Bool → List (List ℕ) → List (List ℕ)

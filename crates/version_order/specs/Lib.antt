@@ -1,3 +1,4 @@
+-- The items and ranks of versions, their orders, and the grammar of constraints.
 pub mod RankValue
 pub mod Items
 pub mod Cutting

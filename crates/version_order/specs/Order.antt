@@ -10,7 +10,9 @@ use Rattle.version_order.specs.RankValue.{RankValue}
 use Rattle.version_order.specs.Ranks.{rank_cmp, empty_rank, ranks_cmp, items_cmp, full_cmp, ranks}
 
 pub rank_total : IsTotalOrder rank_cmp
-rank_total = then_total (on_total (λ (r : RankValue). r.class) nat_cmp_total) (then_total (on_total (λ (r : RankValue). r.size) nat_cmp_total) (on_total (λ (r : RankValue). r.bytes) nat_list_cmp_total))
+rank_total =
+    then_total (on_total (λ (r : RankValue). r.class) nat_cmp_total)
+    (then_total (on_total (λ (r : RankValue). r.size) nat_cmp_total) (on_total (λ (r : RankValue). r.bytes) nat_list_cmp_total))
 
 -- continued by empty items to a length
 abbrev continued : ℕ → List RankValue → List RankValue
@@ -18,14 +20,18 @@ continued zero xs = []
 continued (suc n) [] = empty_rank ∷ continued n []
 continued (suc n) (x ∷ xs) = x ∷ continued n xs
 
-same_continued : (n : ℕ) (xs ys : List RankValue) → length xs ≤ n → length ys ≤ n → ranks_cmp xs ys ≡ slice_cmp rank_cmp (continued n xs) (continued n ys)
+same_continued : (n : ℕ) (xs ys : List RankValue) → length xs ≤ n → length ys ≤ n
+    → ranks_cmp xs ys ≡ slice_cmp rank_cmp (continued n xs) (continued n ys)
 same_continued zero [] [] h k = refl
 same_continued zero [] (y ∷ ys) h k = absurd (omega (arith, k))
 same_continued zero (x ∷ xs) ys h k = absurd (omega (arith, h))
 same_continued (suc n) [] [] h k = same_continued n [] [] (omega arith) (omega arith)
-same_continued (suc n) [] (y ∷ ys) h k = ap (ordering_then (rank_cmp empty_rank y)) (same_continued n [] ys (omega arith) (omega (arith, k)))
-same_continued (suc n) (x ∷ xs) [] h k = ap (ordering_then (rank_cmp x empty_rank)) (same_continued n xs [] (omega (arith, h)) (omega arith))
-same_continued (suc n) (x ∷ xs) (y ∷ ys) h k = ap (ordering_then (rank_cmp x y)) (same_continued n xs ys (omega (arith, h)) (omega (arith, k)))
+same_continued (suc n) [] (y ∷ ys) h k =
+    ap (ordering_then (rank_cmp empty_rank y)) (same_continued n [] ys (omega arith) (omega (arith, k)))
+same_continued (suc n) (x ∷ xs) [] h k =
+    ap (ordering_then (rank_cmp x empty_rank)) (same_continued n xs [] (omega (arith, h)) (omega arith))
+same_continued (suc n) (x ∷ xs) (y ∷ ys) h k =
+    ap (ordering_then (rank_cmp x y)) (same_continued n xs ys (omega (arith, h)) (omega (arith, k)))
 
 abbrev C : List RankValue → List RankValue → Ordering
 C = slice_cmp rank_cmp

@@ -7,7 +7,8 @@ use Rattle.std.specs.Cmp.Lexicographic.{slice_cmp}
 use Rattle.std.specs.Str.{str_to_ascii_lowercase}
 use Rattle.case_table.specs.Rows.{value_at}
 use Rattle.version_order.specs.RankValue.{RankValue}
-use Rattle.version_order.specs.Items.{is_digit, items}
+use Rattle.ascii_bytes.specs.Classes.{is_digit}
+use Rattle.version_order.specs.Items.{items}
 
 -- The classes from least to greatest: alpha, beta, milestone, rc, snapshot, a release, sp, any other word, any other number.
 abbrev pub release_class : ℕ
@@ -48,14 +49,16 @@ word_rank word None = record { class = word_class; size = 0; bytes = word }
 -- the rank of an item in small letters
 abbrev pub rank : List ℕ → RankValue
 rank [] = empty_rank
-rank (c ∷ item) = if is_digit c then number_rank (without_zeros (c ∷ item)) else word_rank (c ∷ item) (value_at (c ∷ item) qualifiers)
+rank (c ∷ item) =
+    if is_digit c then number_rank (without_zeros (c ∷ item)) else word_rank (c ∷ item) (value_at (c ∷ item) qualifiers)
 
 -- ASCII's capital letters count as small ones
 abbrev pub ranks : List ℕ → List RankValue
 ranks text = map rank (items (str_to_ascii_lowercase text))
 
 abbrev pub rank_cmp : RankValue → RankValue → Ordering
-rank_cmp a b = ordering_then (nat_cmp a.class b.class) (ordering_then (nat_cmp a.size b.size) (slice_cmp nat_cmp a.bytes b.bytes))
+rank_cmp a b =
+    ordering_then (nat_cmp a.class b.class) (ordering_then (nat_cmp a.size b.size) (slice_cmp nat_cmp a.bytes b.bytes))
 
 abbrev pub empty_against : List RankValue → Ordering
 empty_against [] = Equal

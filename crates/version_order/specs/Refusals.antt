@@ -8,7 +8,7 @@ use Rattle.version_order.specs.declared.constraint.ConstraintErr.TheVariants.{Ba
 use Rattle.version_order.specs.Constraints.{trimmed, IsConstraint}
 use Rattle.version_order.specs.ConstraintReader.{constraint_reader, begin}
 
--- the text is no constraint, with its place; memory is wanted only for a constraint
+-- the text is no constraint, with its place; there is no memory only for a constraint
 abbrev pub IsRefusal : List ℕ → ConstraintErr → Type 0
 IsRefusal text (BadConstraint place) = IsPlace (Accepts IsConstraint) text place
 IsRefusal text NoMemory = Accepts IsConstraint text

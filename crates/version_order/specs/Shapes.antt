@@ -6,7 +6,8 @@ use Rattle.version_order.specs.declared.constraint.Constraint.TheVariants.{Any a
 use Rattle.version_order.specs.declared.shape.Bound.{Bound}
 use Rattle.version_order.specs.declared.shape.Shape.{Shape}
 use Rattle.version_order.specs.declared.shape.Shape.TheVariants.{Any, Plain, Single, Pair}
-use Rattle.version_order.specs.Constraints.{is_plain_byte, interval_of, only}
+use Rattle.ascii_bytes.specs.Classes.{is_plain_byte}
+use Rattle.version_order.specs.Constraints.{interval_of, only}
 
 -- an empty part of the text is no bound
 abbrev pub bound_in : List ℕ → Bound → Option (List ℕ)
@@ -22,7 +23,8 @@ abbrev pub constraint_of : List ℕ → Shape → Constraint
 constraint_of text Any = AnyVersion
 constraint_of text Plain = PlainVersion text
 constraint_of text (Single bound) = Within (only (slice_range text bound.start bound.end))
-constraint_of text (Pair square low high square_end) = Within (interval_of square (bound_in text low) (bound_in text high) square_end)
+constraint_of text (Pair square low high square_end) =
+    Within (interval_of square (bound_in text low) (bound_in text high) square_end)
 
 abbrev pub IsSoundShape : List ℕ → Shape → Type 0
 IsSoundShape text Any = Unit {0}

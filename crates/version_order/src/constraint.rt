@@ -1,12 +1,15 @@
+//! What a request asks of a version, read from its text.
 ghost use Rattle.std.specs.Prelude.{◌≡◌, ◌↔◌, ℕ, List, Some, true, slice_range, IfOk, IfErr};
 ghost use Rattle.std.specs.List.{list_all};
-ghost use Rattle.version_order.specs.Constraints.{is_plain_byte, end_of as end_in, trimmed, IsConstraint};
+ghost use Rattle.ascii_bytes.specs.Classes.{is_plain_byte};
+ghost use Rattle.version_order.specs.Constraints.{end_of, trimmed, IsConstraint};
 ghost use Rattle.version_order.specs.Refusals.{IsRefusal, IsAnswer, constraint_in};
-ghost use Rattle.version_order.specs.declared.constraint.Constraint.{Constraint as Read};
+ghost use Rattle.version_order.specs.declared.constraint.Constraint.{Constraint};
 ghost use Rattle.version_order.specs.Shapes.{bound_in, IsSound, constraint_of, IsSoundShape};
 
-use super::shape::{Bound, Shape, shape_of, trim_end, trim_front};
+use super::shape::{Bound, Shape, shape_of};
 use super::version::Version;
+use ascii_bytes::{White, trim_end, trim_start};
 use interval_sets::{End, Interval, NoMemory};
 use std::alloc::Global;
 use std::str;
@@ -25,7 +28,7 @@ pub enum Constraint {
 /// Why a constraint was not read.
 #[derive(Clone, Copy, Debug, PartialEq, Eq)]
 pub enum ConstraintErr {
-    /// The text is no constraint. The number counts the bytes, behind the white space at the
+    /// The text is no constraint. The number counts the bytes, after the white space at the
     /// start, that still begin some constraint.
     BadConstraint(usize),
     NoMemory,
@@ -53,7 +56,7 @@ fn version_of(alloc: Global, bytes: &[u8]) -> Result<Version, NoMemory>
 
 fn end_of(alloc: Global, bytes: &[u8], square: bool, bound: Bound) -> Result<End<Version>, NoMemory>
     requires { IsSound bytes.now bound }
-    ensures { IfOk result (λ made. made ≡ end_in square (bound_in bytes.now bound)) }
+    ensures { IfOk result (λ made. made ≡ end_of square (bound_in bytes.now bound)) }
 {
     if bound.start == bound.end {
         return Ok(End::Free);
@@ -103,7 +106,7 @@ pub fn read_constraint(alloc: Global, text: &str) -> Result<Constraint, Constrai
     ensures refused { IfErr result (IsRefusal (trimmed text.now)) }
     ensures answer { IsAnswer (constraint_in text.now) result }
 {
-    let bytes = trim_front(trim_end(text.as_bytes()));
+    let bytes = trim_start::<White>(trim_end::<White>(text.as_bytes()));
     match shape_of(bytes) {
         Ok(shape) => match build(alloc, bytes, shape) {
             Ok(value) => Ok(value),
@@ -116,6 +119,6 @@ pub fn read_constraint(alloc: Global, text: &str) -> Result<Constraint, Constrai
 /// A law, with nothing to run: a text reads as at most one constraint, and `constraint_in` is a
 /// function that gives it.
 pub fn readings()
-    ensures { (text : List ℕ) (value : Read) →
+    ensures { (text : List ℕ) (value : Constraint) →
         (constraint_in text ≡ Some value) ↔ IsConstraint (trimmed text) value }
 {}

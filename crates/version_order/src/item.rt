@@ -1,12 +1,13 @@
 //! The items of a text and how they stand against each other.
 
 ghost use Rattle.std.specs.Prelude.{◌≡◌, ◌<◌, ◌≤◌, ◌+◌, ◌-◌, ◌++◌, [], ◌∷◌, length, map, get_or, slice_index, All, IfOk, OnOk, IfSome, if◌then◌else◌, ◌==◌, slice_range};
-ghost use Rattle.version_order.specs.Items.{is_digit as digit_test, is_separator as separator_test, items};
+ghost use Rattle.version_order.specs.Items.{is_separator, items};
 ghost use Rattle.version_order.specs.Ranks.{rank, rank_cmp, ranks_cmp, empty_rank, number_rank, without_zeros, number_class, qualifiers};
 ghost use Rattle.version_order.specs.Cutting.{breaks};
 ghost use Rattle.version_order.specs.Kept.{rank_at, ranks_with, IsWithin};
 
 use super::qualifiers::class_of;
+use ascii_bytes::is_digit;
 use case_table::Table;
 use interval_sets::NoMemory;
 use std::alloc::{AllocError, Global};
@@ -34,14 +35,8 @@ const EMPTY: Item = Item {
     end: 0,
 };
 
-fn is_digit(c: u8) -> bool
-    ensures { result ≡ digit_test c }
-{
-    c >= b'0' && c <= b'9'
-}
-
 fn is_separator(c: u8) -> bool
-    ensures { result ≡ separator_test c }
+    ensures { result ≡ is_separator c }
 {
     c == b'.' || c == b'-' || c == b'_' || c == b'+'
 }
@@ -106,7 +101,7 @@ fn read_item(
     }
 }
 
-/// Puts the item from `start` to `end` behind the others.
+/// Puts the item from `start` to `end` after the others.
 fn push_item(
     alloc: Global,
     table: &mut Option<Table<u8>>,
@@ -139,7 +134,7 @@ fn breaks_at(lowered: &[u8], start: usize, i: usize) -> bool
     start < i && is_digit(lowered[start]) != is_digit(lowered[i])
 }
 
-/// Goes past the character at the place `i`, and tells where the item behind it began.
+/// Goes past the character at the place `i`, and tells where the item after it began.
 fn pass(
     alloc: Global,
     table: &mut Option<Table<u8>>,
@@ -212,7 +207,7 @@ fn cmp_item(a: &Item, left: &[u8], b: &Item, right: &[u8]) -> Ordering
     }
 }
 
-/// The item at a place, or the empty one behind the last.
+/// The item at a place, or the empty one after the last.
 fn item_at(items: &[Item], place: usize) -> Item
     ensures { result ≡ get_or items.now place EMPTY }
 {

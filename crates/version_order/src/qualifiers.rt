@@ -1,7 +1,7 @@
 //! The words that have a class of their own.
 
 ghost use Rattle.std.specs.Prelude.{◌≡◌, IfOk, IfErr, IfSome};
-ghost use Rattle.version_order.specs.Ranks.{qualifiers as qualifier_rows};
+ghost use Rattle.version_order.specs.Ranks.{qualifiers};
 ghost use Rattle.case_table.specs.Rows.{value_at};
 ghost use Rattle.case_table.specs.declared.table.AddErr.TheVariants.{NoMemory as OutOfMemory};
 
@@ -19,7 +19,7 @@ macro_rules! rows {
 }
 
 fn qualifiers(alloc: Global) -> Result<Table<u8>, AddErr>
-    ensures value { IfOk result (λ table. table ≡ qualifier_rows) }
+    ensures value { IfOk result (λ table. table ≡ qualifiers) }
     ensures sorted { IfErr result (λ e. e ≡ OutOfMemory) }
 {
     Ok(rows! {
@@ -38,7 +38,7 @@ fn qualifiers(alloc: Global) -> Result<Table<u8>, AddErr>
 }
 
 fn made(alloc: Global) -> Result<Table<u8>, NoMemory>
-    ensures { IfOk result (λ table. table ≡ qualifier_rows) }
+    ensures { IfOk result (λ table. table ≡ qualifiers) }
 {
     match qualifiers(alloc) {
         Ok(table) => Ok(table),
@@ -48,8 +48,8 @@ fn made(alloc: Global) -> Result<Table<u8>, NoMemory>
 }
 
 fn find(table: &Table<u8>, word: &[u8]) -> Option<u8>
-    requires { table.now ≡ qualifier_rows }
-    ensures { result ≡ value_at word.now qualifier_rows }
+    requires { table.now ≡ qualifiers }
+    ensures { result ≡ value_at word.now qualifiers }
 {
     match str::from_utf8(word) {
         Ok(word) => table.find(word).copied(),
@@ -63,9 +63,9 @@ pub(crate) fn class_of(
     table: &mut Option<Table<u8>>,
     word: &[u8],
 ) -> Result<Option<u8>, NoMemory>
-    requires { IfSome table.old (λ rows. rows ≡ qualifier_rows) }
-    ensures value { IfOk result (λ class. class ≡ value_at word.now qualifier_rows) }
-    ensures kept { IfSome table.new (λ rows. rows ≡ qualifier_rows) }
+    requires { IfSome table.old (λ rows. rows ≡ qualifiers) }
+    ensures value { IfOk result (λ class. class ≡ value_at word.now qualifiers) }
+    ensures kept { IfSome table.new (λ rows. rows ≡ qualifiers) }
 {
     if table.is_none() {
         *table = Some(made(alloc)?);

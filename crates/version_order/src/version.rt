@@ -1,3 +1,4 @@
+//! A version as a value, with its two orders.
 ghost use Rattle.std.specs.Prelude.{◌≡◌, ℕ, List, IfOk};
 ghost use Rattle.std.specs.Cmp.{IsTotalOrder};
 ghost use Rattle.std.specs.declared.cmp.Ordering.TheVariants.{Equal};
@@ -111,10 +112,10 @@ impl Version {
 }
 
 impl Ranked for Version {
-    ghost use Rattle.version_order.specs.Ranks.{items_cmp as by_items};
+    ghost use Rattle.version_order.specs.Ranks.{items_cmp};
     ghost use Rattle.version_order.specs.Order.{items_total};
 
-    ghost order = { by_items };
+    ghost order = { items_cmp };
 
     fn cmp_rank(&self, other: &Version) -> Ordering {
         self.cmp_items(other)

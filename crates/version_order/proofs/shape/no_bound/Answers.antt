@@ -11,4 +11,5 @@ returns-then-from-start-clause-refused c side here =
     ]
 
 pub returns-then-start-bytes-clause-refused : goal.returns-then-start-bytes-clause-refused
-returns-then-start-bytes-clause-refused c side here = ends_bare side c.args.bytes.now c.args.from c.args.start 0 0 here c.requires.blanks c.requires.blank c.if-start-bytes.true
+returns-then-start-bytes-clause-refused c side here =
+    ends_bare side c.args.bytes.now c.args.from c.args.start 0 0 here c.requires.blanks c.requires.blank c.if-start-bytes.true

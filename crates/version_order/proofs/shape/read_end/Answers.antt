@@ -6,4 +6,6 @@ use Rattle.version_order.proofs.shape.read_end.Goals as goal
 
 pub returns-then-high-bytes-clause-refused : goal.returns-then-high-bytes-clause-refused
 returns-then-high-bytes-clause-refused c =
-    closed_stuck c.args.bytes.now (interval_of c.args.square (bound_in c.args.bytes.now c.args.low) (bound_in c.args.bytes.now c.args.high) c.args.square_end) (c.args.high.stop + 1) c.if-high-bytes.true c.requires.closed
+    closed_stuck c.args.bytes.now
+    (interval_of c.args.square (bound_in c.args.bytes.now c.args.low) (bound_in c.args.bytes.now c.args.high) c.args.square_end)
+    (c.args.high.stop + 1) c.if-high-bytes.true c.requires.closed

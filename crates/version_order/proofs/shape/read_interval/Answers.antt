@@ -13,18 +13,23 @@ pub read_second-requires-clause-begun : goal.read_second-requires-clause-begun
 read_second-requires-clause-begun c =
     let text = c.args.bytes.now in
     let low = bound_in text c.in-Ok.low in
-    ends_on (first c.args.square) low text c.in-Ok.low.stop 44 (opened (second c.args.square low)) c.in-Ok.ensures.sound.stops (c.in-Ok.ensures.read (first c.args.square) c.requires.begun) c.if-c-eq44.true (comma c.args.square low)
+    ends_on (first c.args.square) low text c.in-Ok.low.stop 44
+    (opened (second c.args.square low)) c.in-Ok.ensures.sound.stops
+    (c.in-Ok.ensures.read (first c.args.square) c.requires.begun) c.if-c-eq44.true (comma c.args.square low)
 
 pub read_single-requires-clause-closed : goal.read_single-requires-clause-closed
 read_single-requires-clause-closed c =
     let text = c.args.bytes.now in
     let low = c.in-Ok.low in
     let ended = first_single text c.args.square low _ (sym c.ends_single.ensures ∙ c.if-ends_single.true) in
-    ends_on (first c.args.square) (bound_in text low) text low.stop _ (closed (only (slice_range text low.start low.end))) c.in-Ok.ensures.sound.stops (c.in-Ok.ensures.read (first c.args.square) c.requires.begun) refl ended
+    ends_on (first c.args.square) (bound_in text low) text low.stop _
+    (closed (only (slice_range text low.start low.end))) c.in-Ok.ensures.sound.stops
+    (c.in-Ok.ensures.read (first c.args.square) c.requires.begun) refl ended
 
 pub returns-clause-refused : goal.returns-clause-refused
 returns-clause-refused c =
     let text = c.args.bytes.now in
     let low = c.in-Ok.low in
-    ends_stuck (first c.args.square) (bound_in text low) text low.stop c.in-Ok.ensures.sound.stops (c.in-Ok.ensures.read (first c.args.square) c.requires.begun)
+    ends_stuck (first c.args.square) (bound_in text low) text low.stop c.in-Ok.ensures.sound.stops
+    (c.in-Ok.ensures.read (first c.args.square) c.requires.begun)
     (first_stuck text c.args.square low _ c.in-Ok.ensures.sound.rises c.if-c-eq44.false (sym c.ends_single.ensures ∙ c.if-ends_single.false))

@@ -21,4 +21,5 @@ second Equal p e = e
 second Greater p e = cc
 
 pub returns-clause-ties : goal.returns-clause-ties
-returns-clause-ties c a b e = (bytes_eq-Decides a b).0 (sym (is_eq-slice_cmp a b) ∙ ap is_eq (second (items_cmp a b) (slice_cmp nat_cmp a b) e))
+returns-clause-ties c a b e =
+    (bytes_eq-Decides a b).0 (sym (is_eq-slice_cmp a b) ∙ ap is_eq (second (items_cmp a b) (slice_cmp nat_cmp a b) e))
