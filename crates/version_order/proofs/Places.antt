@@ -1,10 +1,8 @@
 -- The order by items, place by place.
-use Rattle.std.proofs.Common.{◌≡◌, ℕ, zero, suc, List, [], ◌∷◌, drop, get_or, map, refl, sym, ◌∙◌, ap}
-use Rattle.std.specs.Ordering.{ordering_then}
+use Rattle.std.proofs.Common.{◌≡◌, ℕ, zero, suc, List, [], ◌∷◌, get_or, map, refl, ◌∙◌, ap}
 use Rattle.version_order.specs.declared.item.Item.{Item}
 use Rattle.version_order.specs.Kept.{rank_at}
-use Rattle.version_order.specs.RankValue.{RankValue}
-use Rattle.version_order.specs.Ranks.{rank_cmp, empty_rank, ranks_cmp}
+use Rattle.version_order.specs.Ranks.{empty_rank}
 
 -- the rank of the item at a place
 pub rank_at_place : (lowered : List ℕ) (items : List Item) (place : ℕ) (item : Item)
