@@ -11,7 +11,7 @@ use Rattle.std.proofs.lemmas.List.Folds.{list_any-append, list_all-append}
 use Rattle.res_base.specs.Names.{text_eq}
 use Rattle.res_base.specs.declared.coord.Module.{Module}
 use Rattle.res_base.specs.declared.pom.Exclusion.{Exclusion}
-use Rattle.exclusion_sets.specs.Exclusions.{stands_for, covers, some_covers, is_excluded, is_covered, is_within, join_of, no_rules}
+use Rattle.exclusion_sets.specs.Exclusions.{stands_for, covers, some_covers, is_excluded, is_covered, is_within, join_of, no_rules, uncovered}
 use Rattle.exclusion_sets.specs.declared.excl_set.ExclSet.{ExclSet}
 use Rattle.std.proofs.lemmas.Bool.{and_from, or_cases, or_left, or_right}
 use Rattle.exclusion_sets.proofs.Booleans.{first, second, false_before, list_all-implies, list_any-implies}
@@ -30,19 +30,23 @@ stands_on p q text pq qt =
 covers_itself : (rule : Exclusion) → covers rule rule.org rule.name ≡ true
 covers_itself rule = and_from (stands_for rule.org rule.org) (stands_for rule.name rule.name) (stands_for_itself rule.org) (stands_for_itself rule.name)
 
-covers_on : (wide rule : Exclusion) (org name : List ℕ) → covers wide rule.org rule.name ≡ true → covers rule org name ≡ true → covers wide org name ≡ true
+covers_on : (wide rule : Exclusion) (org name : List ℕ) → covers wide rule.org rule.name ≡ true
+    → covers rule org name ≡ true → covers wide org name ≡ true
 covers_on wide rule org name wider fits =
     and_from (stands_for wide.org org) (stands_for wide.name name)
     (stands_on wide.org rule.org org (first (stands_for wide.org rule.org) (stands_for wide.name rule.name) wider) (first (stands_for rule.org org) (stands_for rule.name name) fits))
     (stands_on wide.name rule.name name (second (stands_for wide.org rule.org) (stands_for wide.name rule.name) wider) (second (stands_for rule.org org) (stands_for rule.name name) fits))
 
 -- what a covered rule covers, some rule covers
-some_on : (rules : List Exclusion) (rule : Exclusion) (org name : List ℕ) → some_covers rules rule.org rule.name ≡ true → covers rule org name ≡ true → some_covers rules org name ≡ true
+some_on : (rules : List Exclusion) (rule : Exclusion) (org name : List ℕ)
+    → some_covers rules rule.org rule.name ≡ true → covers rule org name ≡ true → some_covers rules org name ≡ true
 some_on rules rule org name covered fits =
     list_any-implies (λ wide. covers wide rule.org rule.name) (λ wide. covers wide org name) (λ wide wider. covers_on wide rule org name wider fits) rules covered
 
 -- what a rule of a set within another covers, some rule of the other covers
-within_on : (rules others : List Exclusion) (org name : List ℕ) → list_all (λ rule. some_covers others rule.org rule.name) rules ≡ true → some_covers rules org name ≡ true → some_covers others org name ≡ true
+within_on : (rules others : List Exclusion) (org name : List ℕ)
+    → list_all (λ rule. some_covers others rule.org rule.name) rules ≡ true → some_covers rules org name ≡ true
+    → some_covers others org name ≡ true
 within_on [] others org name within covered = absurd (true≢false (sym covered))
 within_on (rule ∷ rules) others org name within covered =
     elim (or_cases (covers rule org name) (some_covers rules org name) covered) [
@@ -50,10 +54,12 @@ within_on (rule ∷ rules) others org name within covered =
       | inr later ↦ within_on rules others org name (second (some_covers others rule.org rule.name) (list_all (λ r. some_covers others r.org r.name) rules) within) later
     ]
 
-pub excludes_more : (a b : ExclSet) (m : Module) → is_within a b ≡ true → is_excluded a m ≡ true → is_excluded b m ≡ true
+pub excludes_more : (a b : ExclSet) (m : Module) → is_within a b ≡ true → is_excluded a m ≡ true
+    → is_excluded b m ≡ true
 excludes_more a b m within excluded = within_on a.rules b.rules m.org m.name within excluded
 
-pub passes_more : (a b : ExclSet) (m : Module) → is_within a b ≡ true → is_excluded b m ≡ false → is_excluded a m ≡ false
+pub passes_more : (a b : ExclSet) (m : Module) → is_within a b ≡ true → is_excluded b m ≡ false
+    → is_excluded a m ≡ false
 passes_more a b m within free = false_before (is_excluded a m) (is_excluded b m) (excludes_more a b m within) free
 
 pub within-trans : (a b c : ExclSet) → is_within a b ≡ true → is_within b c ≡ true → is_within a c ≡ true
@@ -70,29 +76,31 @@ pub within-refl : (a : ExclSet) → is_within a a ≡ true
 within-refl a = rules_within a.rules
 
 module _ (a : ExclSet) where
-  abbrev uncovered : List Exclusion → List Exclusion
-  uncovered rules = filter (λ rule. not (is_covered a rule)) rules
-
   -- the rules that were left out add nothing
-  uncovered_either : (rules : List Exclusion) (org name : List ℕ) → (some_covers a.rules org name || some_covers (uncovered rules) org name) ≡ (some_covers a.rules org name || some_covers rules org name)
+  uncovered_either : (rules : List Exclusion) (org name : List ℕ)
+      → (some_covers a.rules org name || some_covers (uncovered a rules) org name) ≡ (some_covers a.rules org name || some_covers rules org name)
   uncovered_either rules org name = by (some_covers a.rules org name) refl
     where
-      left_out : some_covers a.rules org name ≡ false → (rs : List Exclusion) → some_covers (uncovered rs) org name ≡ some_covers rs org name
+      left_out : some_covers a.rules org name ≡ false → (rs : List Exclusion)
+          → some_covers (uncovered a rs) org name ≡ some_covers rs org name
       left_out none [] = refl
       left_out none (rule ∷ rs) = at (is_covered a rule) refl (left_out none rs)
         where
-          at : (covered : Bool) → is_covered a rule ≡ covered → some_covers (uncovered rs) org name ≡ some_covers rs org name
-              → some_covers (cond (not covered) (rule ∷ uncovered rs) (uncovered rs)) org name ≡ (covers rule org name || some_covers rs org name)
+          at : (covered : Bool) → is_covered a rule ≡ covered
+              → some_covers (uncovered a rs) org name ≡ some_covers rs org name
+              → some_covers (cond (not covered) (rule ∷ uncovered a rs) (uncovered a rs)) org name ≡ (covers rule org name || some_covers rs org name)
           at true e rest =
               let free : covers rule org name ≡ false = false_before (covers rule org name) (some_covers a.rules org name) (λ fits. some_on a.rules rule org name e fits) none in
               rw free rest
           at false e rest = ap (λ b. covers rule org name || b) rest
 
-      by : (b : Bool) → some_covers a.rules org name ≡ b → (b || some_covers (uncovered rules) org name) ≡ (b || some_covers rules org name)
+      by : (b : Bool) → some_covers a.rules org name ≡ b
+          → (b || some_covers (uncovered a rules) org name) ≡ (b || some_covers rules org name)
       by true e = refl
       by false e = left_out e rules
 
-pub join_covers : (a b : ExclSet) (org name : List ℕ) → some_covers (join_of a b).rules org name ≡ (some_covers a.rules org name || some_covers b.rules org name)
+pub join_covers : (a b : ExclSet) (org name : List ℕ)
+    → some_covers (join_of a b).rules org name ≡ (some_covers a.rules org name || some_covers b.rules org name)
 join_covers a b org name =
     list_any-append (λ rule. covers rule org name) a.rules (uncovered a b.rules) ∙ uncovered_either a b.rules org name
 

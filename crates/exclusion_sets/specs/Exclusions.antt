@@ -33,6 +33,10 @@ is_covered set rule = some_covers set.rules rule.org rule.name
 abbrev pub is_within : ExclSet → ExclSet → Bool
 is_within set other = list_all (is_covered other) set.rules
 
+-- the rules that a set does not cover
+abbrev pub uncovered : ExclSet → List Exclusion → List Exclusion
+uncovered set rules = filter (λ rule. not (is_covered set rule)) rules
+
 -- the rules of the first, and those of the second that it does not cover
 abbrev pub join_of : ExclSet → ExclSet → ExclSet
-join_of a b = record { rules = a.rules ++ filter (λ rule. not (is_covered a rule)) b.rules }
+join_of a b = record { rules = a.rules ++ uncovered a b.rules }

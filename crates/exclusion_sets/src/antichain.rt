@@ -94,7 +94,7 @@ impl Antichain {
     /// Adds a set, unless a kept one is within it: that one is as good, since it excludes no more.
     /// It takes no memory.
     ///
-    /// After `Added` the new set stands last, behind those that it is not within, in their order.
+    /// After `Added` the new set stands last, after those that it is not within, in their order.
     /// After `Covered` nothing has changed.
     pub fn add(&mut self, set: ExclSet) -> Added
         requires { 0 < self.old.room }

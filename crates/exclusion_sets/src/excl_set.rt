@@ -1,10 +1,14 @@
 //! Sets of exclusions.
-ghost use Rattle.std.specs.Prelude.{◌≡◌, ◌↔◌, ◌∷◌, [], ◌++◌, ◌||◌, not, filter, IfOk, IsTrue, OnOk};
-ghost use Rattle.exclusion_sets.specs.Exclusions.{covers, is_covered, is_excluded, is_within, join_of, stands_for};
+ghost use Rattle.std.specs.Prelude.{◌≡◌, ◌↔◌, ◌∷◌, [], ◌++◌, ◌||◌, IfOk, IsTrue, OnOk};
+ghost use Rattle.exclusion_sets.specs.Exclusions.{covers, is_covered, is_excluded, is_within, join_of, stands_for, uncovered};
 ghost use Rattle.res_base.specs.declared.coord.Module.{Module};
 
+use crate::rule_table::{put_unfound, table_of};
 use res_base::{Copied, Exclusion, List, Module, NoMemory, Text};
 use std::alloc::Global;
+
+/// From how many rules on a table costs less than comparing all pairs.
+const MANY_RULES: usize = 16;
 
 /// Exclusions that hold together: what any of its rules matches is left out.
 #[derive(Drop)]
@@ -78,7 +82,7 @@ impl ExclSet {
         rules: &mut List<Exclusion>,
         rule: &Exclusion,
     ) -> Result<(), NoMemory>
-        ensures { OnOk result (rules.new ≡ rules.old ++ filter (λ one. not (is_covered self.now one)) (rule.now ∷ [])) }
+        ensures { OnOk result (rules.new ≡ rules.old ++ uncovered self.now (rule.now ∷ [])) }
     {
         if self.has_cover(rule) {
             return Ok(());
@@ -86,16 +90,61 @@ impl ExclSet {
         rules.push(rule.copy(alloc)?)
     }
 
+    /// Puts the rules that the set does not cover at the end of others, by comparing all pairs.
+    fn put_by_pairs(
+        &self,
+        alloc: Global,
+        rules: &mut List<Exclusion>,
+        more: &[Exclusion],
+    ) -> Result<(), NoMemory>
+        ensures { OnOk result (rules.new ≡ rules.old ++ uncovered self.now more.now) }
+    {
+        for rule in more {
+            self.put_uncovered(alloc, rules, rule)?;
+        }
+        Ok(())
+    }
+
+    /// Likewise, by looking each up in a table.
+    fn put_by_table(
+        &self,
+        alloc: Global,
+        rules: &mut List<Exclusion>,
+        more: &[Exclusion],
+    ) -> Result<(), NoMemory>
+        ensures { OnOk result (rules.new ≡ rules.old ++ uncovered self.now more.now) }
+    {
+        let table = table_of(alloc, self.rules.as_slice())?;
+        for rule in more {
+            put_unfound(alloc, &table, rules, rule)?;
+        }
+        Ok(())
+    }
+
+    /// Likewise, by a table where there are many of both.
+    fn put_more(
+        &self,
+        alloc: Global,
+        rules: &mut List<Exclusion>,
+        more: &[Exclusion],
+    ) -> Result<(), NoMemory>
+        ensures { OnOk result (rules.new ≡ rules.old ++ uncovered self.now more.now) }
+    {
+        if self.rules.len() < MANY_RULES || more.len() < MANY_RULES {
+            return self.put_by_pairs(alloc, rules, more);
+        }
+        self.put_by_table(alloc, rules, more)
+    }
+
     /// A set that excludes what either excludes: the rules of this one, and then those of the other
     /// that none of these covers.
     pub fn join(&self, alloc: Global, other: &ExclSet) -> Result<ExclSet, NoMemory>
         ensures value { IfOk result (λ joined. joined ≡ join_of self.now other.now) }
-        ensures either { IfOk result (λ joined. (m : Module) → is_excluded joined m ≡ (is_excluded self.now m || is_excluded other.now m)) }
+        ensures either { IfOk result (λ joined.
+            (m : Module) → is_excluded joined m ≡ (is_excluded self.now m || is_excluded other.now m)) }
     {
         let mut rules = self.rules.copy(alloc)?;
-        for rule in other.rules.as_slice() {
-            self.put_uncovered(alloc, &mut rules, rule)?;
-        }
+        self.put_more(alloc, &mut rules, other.rules.as_slice())?;
         Ok(ExclSet { rules })
     }
 }
