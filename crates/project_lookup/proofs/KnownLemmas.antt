@@ -16,7 +16,8 @@ use Rattle.res_base.specs.Known.{known_of}
 use Rattle.res_base.specs.Names.{key_eq, key_cmp}
 use Rattle.res_base.specs.declared.key.FileKey.{FileKey}
 use Rattle.res_base.specs.declared.reading.Reading.{Reading}
-use Rattle.project_lookup.specs.KnownPairs.{AreFit, HasDistinctKeys, HasPlaces, place_of, stands_at}
+use Rattle.project_lookup.specs.KnownPairs.{AreFit, HasPlaces, place_of, stands_at}
+use Rattle.res_base.specs.Known.{HasDistinctKeys}
 
 key_laws : IsEquivalence key_eq
 key_laws = search (comparing, rules)

@@ -1,7 +1,6 @@
 -- What contracts see of known readings.
 use Rattle.std.specs.BTreeMap.{BTreeMap, get}
-use Rattle.std.specs.Prelude.{◌≡◌, ℕ, ◌<◌, Bool, true, not, Option, List, All, map, position}
-use Rattle.std.specs.List.{IsDistinct}
+use Rattle.std.specs.Prelude.{◌≡◌, ℕ, ◌<◌, Bool, true, not, Option, List, All, position}
 use Rattle.res_base.specs.Names.{key_eq, key_cmp, role_eq}
 use Rattle.res_base.specs.declared.key.FileKey.{FileKey}
 use Rattle.res_base.specs.declared.key.Role.{Role}
@@ -27,9 +26,6 @@ stands_at readings.TooLarge role = true
 -- each key is of one of the repositories, and has a reading of its role
 abbrev pub AreFit : ℕ → List (FileKey × Reading) → Type 0
 AreFit repos pairs = All (λ pair. (pair.0.repo < repos) × (stands_at pair.1 pair.0.role ≡ true)) pairs
-
-abbrev pub HasDistinctKeys : List (FileKey × Reading) → Type 0
-HasDistinctKeys pairs = IsDistinct key_eq (map (λ pair. pair.0) pairs)
 
 -- the place of the pair with this key
 abbrev pub place_of : List (FileKey × Reading) → FileKey → Option ℕ

@@ -2,9 +2,9 @@
 ghost use Rattle.std.specs.BTreeMap.{IsUnchanged, Updates};
 ghost use Rattle.std.specs.Option.{option_copied};
 ghost use Rattle.std.specs.Prelude.{◌≡◌, ◌<◌, ◌≤◌, ◌∷◌, [], ◌++◌, true, None, Some, length, IfErr, OnOk, OnErr};
-ghost use Rattle.project_lookup.specs.KnownPairs.{AreFit, HasDistinctKeys, HasPlaces, place_of, stands_at};
+ghost use Rattle.project_lookup.specs.KnownPairs.{AreFit, HasPlaces, place_of, stands_at};
+ghost use Rattle.res_base.specs.Known.{HasDistinctKeys, known_of};
 ghost use Rattle.project_lookup.specs.Refusals.{IsRefusal};
-ghost use Rattle.res_base.specs.Known.{known_of};
 ghost use Rattle.res_base.specs.Names.{key_cmp};
 
 use res_base::{Copied, FileKey, NoMemory, Reading};
@@ -32,7 +32,8 @@ pub struct Known {
 
 impl Model for Known {
     ghost use Rattle.std.specs.Prelude.{◌<◌, ◌≤◌};
-    ghost use Rattle.project_lookup.specs.KnownPairs.{KnownPairs, AreFit, HasDistinctKeys, HasPlaces};
+    ghost use Rattle.project_lookup.specs.KnownPairs.{KnownPairs, AreFit, HasPlaces};
+    ghost use Rattle.res_base.specs.Known.{HasDistinctKeys};
 
     ghost Value = { KnownPairs };
 

@@ -1,7 +1,8 @@
 use Rattle.std.proofs.Common.{◌≡◌, ◌<◌, None, Some, ◌∷◌, [], ◌++◌, length, ap, sym, ◌∙◌, subst, rules}
 use Rattle.std.specs.BTreeMap.{IsUnchanged, Updates}
 use Rattle.res_base.specs.Names.{key_cmp}
-use Rattle.project_lookup.specs.KnownPairs.{KnownPairs, AreFit, HasDistinctKeys, HasPlaces, place_of}
+use Rattle.project_lookup.specs.KnownPairs.{KnownPairs, AreFit, HasPlaces, place_of}
+use Rattle.res_base.specs.Known.{HasDistinctKeys}
 use Rattle.project_lookup.proofs.KnownLemmas.{distinct_push, fit_push, places_push, places_stay}
 use Rattle.project_lookup.proofs.known.Known.put.Goals as goal
 use Rattle.project_lookup.proofs.known.Known.put.Goals.{in-Ok, in-Err}
