@@ -1,5 +1,5 @@
 -- Text that goes out piece by piece.
-use Rattle.std.proofs.Common.{◌≡◌, ◌<◌, ◌+◌, ◌++◌, ℕ, List, [], Option, Some, None, drop, length, get_or, refl, ap, ◌∙◌, append_assoc, add-one, drop-cons}
+use Rattle.std.proofs.Common.{◌≡◌, ◌<◌, ◌+◌, ◌++◌, ℕ, List, Option, Some, None, drop, length, get_or, refl, ap, ◌∙◌, append_assoc, add-one, drop-cons}
 use Rattle.link_base.specs.Sinks.{gained, GainsPrefix}
 use Rattle.coursier_run.specs.Said.{joined}
 

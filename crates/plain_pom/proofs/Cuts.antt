@@ -1,8 +1,8 @@
 -- The cut of white space, and what it keeps.
-use Rattle.std.proofs.Common.{◌≡◌, ℕ, ◌+◌, ◌<◌, Bool, true, false, ◌&&◌, List, [], ◌∷◌, ◌++◌, length, take, drop, get_or, reverse, refl, sym, ◌∙◌, ap, arith}
+use Rattle.std.proofs.Common.{◌≡◌, ℕ, ◌+◌, ◌<◌, Bool, true, ◌&&◌, List, [], ◌∷◌, ◌++◌, length, take, drop, get_or, reverse, refl, sym, ◌∙◌, ap, arith}
 use Rattle.std.specs.List.{list_all}
-use Rattle.std.proofs.lemmas.Bool.{cond_both, cond-true, cond-false, and_parts, and_from}
-use Rattle.std.proofs.lemmas.List.{drop_more, take_more, reverse-append, take-append-drop}
+use Rattle.std.proofs.lemmas.Bool.{cond_both, and_parts, and_from}
+use Rattle.std.proofs.lemmas.List.{drop_more, reverse-append, take-append-drop}
 use Rattle.std.proofs.lemmas.List.Folds.{list_all-append}
 use Rattle.plain_pom.specs.PlainTree.{is_white, is_character, cut_front, cut_ends}
 

@@ -1,4 +1,4 @@
-use Rattle.std.proofs.Common.{◌≡◌, ◌≤◌, ◌++◌, ℕ, List, drop}
+use Rattle.std.proofs.Common.{◌≡◌, ◌++◌, ℕ, List, drop}
 use Rattle.link_base.specs.Sinks.{gained}
 use Rattle.coursier_run.specs.Said.{joined}
 use Rattle.coursier_run.proofs.tell.put_lines.Given as goal
