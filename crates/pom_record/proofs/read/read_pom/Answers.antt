@@ -1,4 +1,4 @@
-use Rattle.pom_record.proofs.ReadingLemmas.{told, tree_answered, fault_answered}
+use Rattle.pom_record.proofs.ReadingLemmas.{told, tree_answered}
 use Rattle.pom_record.proofs.read.read_pom.Goals as goal
 
 pub returns-clause-refused : goal.returns-clause-refused
