@@ -1,0 +1,11 @@
+pub mod Members
+pub mod Distinct
+pub mod Enumerated
+pub mod Cut
+pub mod Kept
+pub mod Answered
+pub mod Modules
+pub mod Rows
+pub mod States
+pub mod Whole
+pub mod Renamed

@@ -1,0 +1,4 @@
+pub mod Graphs
+pub mod Paths
+pub mod Walks
+pub mod Numbers
