@@ -1,0 +1,16 @@
+pub mod Tables
+pub mod Choices
+pub mod Projects
+pub mod Edges
+pub mod Reaching
+pub mod Needs
+pub mod Steering
+pub mod Requests
+pub mod Listings
+pub mod Decisions
+pub mod Counts
+pub mod Verdicts
+pub mod Rounds
+pub mod Turns
+pub mod Reads
+pub mod Rows

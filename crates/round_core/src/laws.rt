@@ -1,0 +1,84 @@
+//! Laws of rounds, as functions with nothing to run.
+ghost use Rattle.std.specs.Prelude.{◌≡◌, ◌<◌, ℕ, List, true, None, length, Contains};
+ghost use Rattle.pom_build.specs.Reads.{Agree};
+ghost use Rattle.res_base.specs.Known.{Known, Grows};
+ghost use Rattle.res_base.specs.declared.key.FileKey.{FileKey};
+ghost use Rattle.resolution.specs.declared.ask.Ask.{Ask};
+ghost use Rattle.resolution.specs.declared.choices.ChoiceRow.{ChoiceRow};
+ghost use Rattle.resolution.specs.declared.choices.Choices.{Choices};
+ghost use Rattle.resolution.specs.declared.progress.Progress.TheVariants.{Waiting};
+ghost use Rattle.resolution.specs.declared.progress.RoundAnswer.TheVariants.{Next};
+ghost use Rattle.round_core.specs.Choices.{Rises, modules_of};
+ghost use Rattle.round_core.specs.Reads.{is_over, needed_of, needs_in, reads_of};
+ghost use Rattle.round_core.specs.Rounds.{Did, round_of, rounds_of};
+
+use exclusion_sets::{join_laws, within_laws};
+use pom_build::{answer_laws, build_laws, read_laws};
+use project_lookup::listing_laws;
+use res_base::equality_decided;
+
+/// More knowledge changes no choices of a round that gave some, no rounds that were done, and no
+/// verdict. The choices that a round gives are in module order.
+pub fn growth_laws()
+    ensures round { (before after : Known) (ask : Ask) (chosen : List ChoiceRow) (later : Choices) →
+        Grows before after → round_of before ask chosen ≡ Next later → round_of after ask chosen ≡ Next later }
+    ensures rises { (known : Known) (ask : Ask) (chosen : List ChoiceRow) (later : Choices) →
+        round_of known ask chosen ≡ Next later → Rises (modules_of later.rows) }
+    ensures did { (before after : Known) (ask : Ask) (done : ℕ) (chosen : List ChoiceRow) →
+        Grows before after → Did before ask done chosen → Did after ask done chosen }
+    ensures over { (before after : Known) (ask : Ask) →
+        Grows before after → is_over (rounds_of before ask) ≡ true → rounds_of after ask ≡ rounds_of before ask }
+    ensures reads { (before after : Known) (ask : Ask) (key : FileKey) →
+        Grows before after → Contains (reads_of before ask) key → Contains (reads_of after ask) key }
+    ensures needed { (before after : Known) (ask : Ask) (key : FileKey) →
+        Grows before after → Contains (needs_in (rounds_of before ask)) key → Contains (needed_of after ask) key }
+{
+    answer_laws();
+    build_laws();
+    read_laws();
+    listing_laws();
+    within_laws();
+    join_laws();
+    equality_decided();
+}
+
+/// Rounds depend on the keys that they look at, and on no other; and so do these keys.
+pub fn look_laws()
+    ensures rounds { (known other : Known) (ask : Ask) →
+        Agree known other (reads_of known ask) → rounds_of other ask ≡ rounds_of known ask }
+    ensures reads { (known other : Known) (ask : Ask) →
+        Agree known other (reads_of known ask) → reads_of other ask ≡ reads_of known ask }
+{
+    answer_laws();
+    build_laws();
+    read_laws();
+    listing_laws();
+    within_laws();
+    join_laws();
+}
+
+/// Rounds wait exactly for the keys that they look at and that are not known, and never for
+/// nothing. So they are over exactly where all that they look at is known.
+pub fn wait_laws()
+    ensures opens { (known : Known) (ask : Ask) (key : FileKey) →
+        Contains (reads_of known ask) key → known key ≡ None → Contains (needs_in (rounds_of known ask)) key }
+    ensures unknown { (known : Known) (ask : Ask) (key : FileKey) →
+        Contains (needs_in (rounds_of known ask)) key → known key ≡ None }
+    ensures read { (known : Known) (ask : Ask) (key : FileKey) →
+        Contains (needs_in (rounds_of known ask)) key → Contains (reads_of known ask) key }
+    ensures some { (known : Known) (ask : Ask) (round : ℕ) (choices : Choices) (needs : List FileKey) →
+        rounds_of known ask ≡ Waiting round choices needs → 0 < length needs }
+    ensures known { (known : Known) (ask : Ask) (key : FileKey) →
+        is_over (rounds_of known ask) ≡ true → Contains (reads_of known ask) key → ¬ (known key ≡ None) }
+    ensures over { (known : Known) (ask : Ask) →
+        ((key : FileKey) → Contains (reads_of known ask) key → ¬ (known key ≡ None)) →
+        is_over (rounds_of known ask) ≡ true }
+{
+    answer_laws();
+    build_laws();
+    read_laws();
+    listing_laws();
+    within_laws();
+    join_laws();
+    equality_decided();
+}

@@ -1,0 +1,29 @@
+//! Rounds: which version of each module is used, and why where there is none.
+#![tactic(auto)]
+
+mod decide;
+mod edges;
+mod keys;
+mod laws;
+mod listings;
+mod needs;
+mod numbers;
+mod one_round;
+mod projects;
+mod reach;
+mod requests;
+mod rounds;
+mod row_key;
+mod steer;
+#[cfg(test)]
+mod tests;
+mod verdict;
+
+pub use artifact_files::artifacts;
+pub use laws::{growth_laws, look_laws, wait_laws};
+pub use one_round::{round, walk};
+pub use resolution::{
+    Ask, Choice, ChoiceRow, Choices, ClashRow, Edge, FaultRow, Node, Progress, ProjectFault,
+    RequestRow, RoundAnswer, Settled, Verdict, Walk,
+};
+pub use rounds::rounds_plain;
