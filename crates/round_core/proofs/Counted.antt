@@ -109,9 +109,9 @@ built_few known ask chosen =
     let ends : List Module = named [] (map target_of (last_ones known ask chosen)) in
     let distinct : AreDistinct (filter test ends) = filter_distinct test ends (distinct_named [] (map target_of (last_ones known ask chosen)) tt) in
     let few : length (filter test ends) ≤ length (built_modules known ask.repos chosen) =
-        no_more module_eq module_same module_itself (as_distinct (filter test ends) distinct) (built_modules known ask.repos chosen)
-        (λ m i.
-        let p : Passed test m ends = from_filter test m ends i in
-        built_listed known ask.repos chosen m (subst (λ z. is_built_in z ≡ true) (project_is known ask chosen m) p.passes))
+    no_more module_eq module_same module_itself (as_distinct (filter test ends) distinct) (built_modules known ask.repos chosen)
+    (λ m i.
+    let p : Passed test m ends = from_filter test m ends i in
+    built_listed known ask.repos chosen m (subst (λ z. is_built_in z ≡ true) (project_is known ask chosen m) p.passes))
     in
     subst (λ n. length (filter test ends) ≤ n) (built_steps known ask.repos chosen) few

@@ -196,9 +196,11 @@ module _ (same_key : (a b : FileKey) → key_cmp a b ≡ Equal → a ≡ b) (law
       by false e g =
           let p : Passes (λ (d : RowEdge). waits_in (at_end (reached_of known ask chosen) d)) (last_ones known ask chosen) = in_from_any (λ (d : RowEdge). waits_in (at_end (reached_of known ask chosen) d)) (last_ones known ask chosen) g in
           let at : at_end (reached_of known ask chosen) p.one ≡ option_map (project_at known ask.repos) (chosen_coord chosen (target_of p.one)) = project_is known ask chosen (target_of p.one) in
-          let r : (x : FileKey) × In x (keys_in (option_map (project_at known ask.repos) (chosen_coord chosen (target_of p.one)))) = some_of (chosen_coord chosen (target_of p.one)) (subst (λ z. waits_in z ≡ true) at p.passes) in
-          (r.0, to_all same_key (λ (d : RowEdge). keys_in (at_end (reached_of known ask chosen) d)) r.0 _ (last_ones known ask chosen)
-          (in_flat_map (λ (d : RowEdge). keys_in (at_end (reached_of known ask chosen) d)) p.member (subst (λ z. In r.0 (keys_in z)) (sym at) r.1)))
+          let r : (x : FileKey) × In x (keys_in (option_map (project_at known ask.repos) (chosen_coord chosen (target_of p.one)))) = some_of (chosen_coord chosen (target_of p.one)) (subst (λ z. waits_in z ≡ true) at p.passes) in (
+            r.0,
+            to_all same_key (λ (d : RowEdge). keys_in (at_end (reached_of known ask chosen) d)) r.0 _ (last_ones known ask chosen)
+                (in_flat_map (λ (d : RowEdge). keys_in (at_end (reached_of known ask chosen) d)) p.member (subst (λ z. In r.0 (keys_in z)) (sym at) r.1)),
+          )
 
   round_some : (chosen : List ChoiceRow) → HasSome (round_of known ask chosen)
   round_some chosen = by (is_open (reached_of known ask chosen)) refl

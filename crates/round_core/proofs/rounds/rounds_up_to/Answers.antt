@@ -35,9 +35,9 @@ returns-in-Ends-clause-steps g c =
     let below : done < c.args.most = c.loop-done-test.true in
     let more : c.args.most - done ≡ suc left = omega (arith, below) in
     let is_whole : rows ≡ whole =
-        sym (ap (λ (t : Turn). last_after t rows (last_from known ask left rows)) c.in-Ends.is)
-        ∙ last_on known ask left done rows c.in_ok-progress.field-0 c.in_ok-progress.ensures.value (c.args.most - done) before.began more
-        ∙ before.last
+    sym (ap (λ (t : Turn). last_after t rows (last_from known ask left rows)) c.in-Ends.is)
+    ∙ last_on known ask left done rows c.in_ok-progress.field-0 c.in_ok-progress.ensures.value (c.args.most - done) before.began more
+    ∙ before.last
     in
     let count : built_count known ask rows ≡ built_count known ask whole = ap (built_count known ask) is_whole in
     let begun : c.args.steps.now + built_count known ask before.began ≤ c.loop-done.steps = before.steps in

@@ -23,8 +23,8 @@ invariant_of-result c =
     let none : is_some (number_in c.args.self m) ≡ false = ap is_some (sym c.number_of.ensures) ∙ sym c.is_some.ensures ∙ c.if-is_some.false in
     let free : number_in c.self.inside.names m ≡ None = not_placed names m (ap (λ ns. is_some (number_in ns m)) c.self.view_is ∙ none) in
     let noted : Updates module_cmp c.self.inside.numbers c.insert.new.self m (Some (length c.self.inside.names)) =
-        subst (λ k. Updates module_cmp c.self.inside.numbers c.insert.new.self k (Some (length c.self.inside.names))) c.in_ok-copy.ensures
-        (subst (λ n. Updates module_cmp c.self.inside.numbers c.insert.new.self c.in_ok-copy.field-0 (Some n)) c.len.ensures c.in_ok-insert.ensures.updates)
+    subst (λ k. Updates module_cmp c.self.inside.numbers c.insert.new.self k (Some (length c.self.inside.names))) c.in_ok-copy.ensures
+    (subst (λ n. Updates module_cmp c.self.inside.numbers c.insert.new.self c.in_ok-copy.field-0 (Some n)) c.len.ensures c.in_ok-insert.ensures.updates)
     in
     let pushed : c.push.new.self ≡ names ++ m ∷ [] = c.in_ok-push.ensures.ok ∙ ap (λ k. names ++ k ∷ []) c.in_ok-copy-2.ensures in
     λ k.
