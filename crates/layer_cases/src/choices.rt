@@ -15,7 +15,7 @@ use reconcile_rules::{Asker, Chosen, Clash, Request, Rule};
 use res_base::{List, Text};
 use std::alloc::{AllocError, Global};
 
-fn rule_of(word: &str) -> Option<Rule>
+pub fn rule_of(word: &str) -> Option<Rule>
     ensures { IfSome result (λ rule. rule_word rule ≡ word.now) }
 {
     match word {

@@ -5,8 +5,8 @@ ghost use Rattle.layer_cases.specs.Words.{IsOneLine};
 use crate::case_error::CaseError;
 use crate::words::pieces_of;
 use crate::{
-    choices, coordinates, digests, effectives, exclusions, intervals, lookups, poms, scopes, trees,
-    versions,
+    artifacts, choices, coordinates, digests, effectives, exclusions, intervals, lookups, poms,
+    rounds, scopes, trees, versions,
 };
 use std::alloc::{AllocError, Global};
 use std::str;
@@ -36,6 +36,8 @@ fn answer_words(alloc: Global, words: &[&str]) -> Result<String, CaseError> {
         "listing-at" => lookups::listing_at(alloc, fields),
         "choose" => choices::choose(alloc, fields),
         "effective" => effectives::effective(alloc, fields),
+        "rounds" => rounds::rounds(alloc, fields),
+        "artifacts" => artifacts::artifacts(alloc, fields),
         _ => Err(CaseError::OutOfForm),
     }
 }

@@ -95,7 +95,7 @@ fn built_line(alloc: Global, project: &Effective) -> Result<String, AllocError>
     joined(alloc, words.as_slice(), " ")
 }
 
-fn key_word(alloc: Global, key: &FileKey) -> Result<String, AllocError>
+pub fn key_word(alloc: Global, key: &FileKey) -> Result<String, AllocError>
     ensures { IfOk result (λ word. string_bytes word ≡ key_word_of key.now) }
 {
     let repo = key.repo;

@@ -8,6 +8,7 @@
 //! is answered by `unknown`.
 #![tactic(auto)]
 
+mod artifacts;
 mod case_error;
 mod choices;
 mod command;
@@ -21,7 +22,9 @@ mod lines;
 mod lookups;
 mod names;
 mod poms;
+mod progress;
 mod reasons;
+mod rounds;
 mod scopes;
 mod serve;
 mod trees;

@@ -249,13 +249,24 @@ fn listing_counted<L: Ledger>(
     read_listing(alloc, bytes, &mut steps)
 }
 
+/// The versions that bytes list, or why they list none.
+pub fn listing_of(
+    alloc: Global,
+    bytes: &[u8],
+) -> Result<Result<List<Text>, ReadFault>, CaseError> {
+    match listing_counted::<Brand>(alloc, bytes, Blank::new(1)) {
+        Ok(versions) => Ok(Ok(versions)),
+        Err(fault) => Ok(Err(listing_fault(fault)?)),
+    }
+}
+
 pub fn listing(alloc: Global, fields: &[&str]) -> Result<String, CaseError> {
     let [text] = fields else {
         return Err(CaseError::OutOfForm);
     };
     let text = bytes_of(alloc, text)?;
-    match listing_counted::<Brand>(alloc, text.as_slice(), Blank::new(1)) {
+    match listing_of(alloc, text.as_slice())? {
         Ok(versions) => Ok(listing_line(alloc, versions.as_slice())?),
-        Err(fault) => Ok(fault_line(alloc, listing_fault(fault)?)?),
+        Err(fault) => Ok(fault_line(alloc, fault)?),
     }
 }

@@ -13,7 +13,7 @@ use res_base::{DepRecord, List, Module, Text};
 use scope_rules::Configuration;
 use std::alloc::Global;
 
-fn configuration_of(word: &str) -> Option<Configuration>
+pub fn configuration_of(word: &str) -> Option<Configuration>
     ensures { IfSome result (λ configuration. configuration_word configuration ≡ word.now) }
 {
     match word {

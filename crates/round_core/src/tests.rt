@@ -120,13 +120,20 @@ fn counted<L: Ledger>(
     }
 }
 
+fn outcome(alloc: Global, known: &Known, root: &str, rounds: u32) -> Result<(char, u32), NoMemory>
+    requires { known.now.repos ≡ 1 }
+{
+    let ask = ask(alloc, root, rounds)?;
+    counted::<Brand>(alloc, known, &ask, Blank::new(1))
+}
+
 #[test]
 fn settles_within_the_limit(rt: HostRuntime) -> Result<(), Fail> {
     let alloc = rt.alloc();
     let known = chain(alloc)?;
-    let five = counted::<Brand>(alloc, &known, &ask(alloc, "x:a:1", 5)?, Blank::new(1))?;
-    let four = counted::<Brand>(alloc, &known, &ask(alloc, "x:a:1", 4)?, Blank::new(1))?;
-    let other = counted::<Brand>(alloc, &known, &ask(alloc, "x:e:1", 4)?, Blank::new(1))?;
+    let five = outcome(alloc, &known, "x:a:1", 5)?;
+    let four = outcome(alloc, &known, "x:a:1", 4)?;
+    let other = outcome(alloc, &known, "x:e:1", 4)?;
     assert!(rt; five == ('S', 5) && four == ('U', 4) && other == ('W', 1));
     Ok(())
 }
