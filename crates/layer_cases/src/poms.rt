@@ -250,10 +250,7 @@ fn listing_counted<L: Ledger>(
 }
 
 /// The versions that bytes list, or why they list none.
-pub fn listing_of(
-    alloc: Global,
-    bytes: &[u8],
-) -> Result<Result<List<Text>, ReadFault>, CaseError> {
+pub fn listing_of(alloc: Global, bytes: &[u8]) -> Result<Result<List<Text>, ReadFault>, CaseError> {
     match listing_counted::<Brand>(alloc, bytes, Blank::new(1)) {
         Ok(versions) => Ok(Ok(versions)),
         Err(fault) => Ok(Err(listing_fault(fault)?)),
