@@ -1,0 +1,64 @@
+-- The fields of a line, each by itself and with what follows it.
+use Rattle.std.specs.Prelude.{◌≡◌, ℕ, ◌<◌, ◌≤◌, ◌^◌, Bool, ◌||◌, List, ◌∷◌, ◌++◌, Option, IfSome, is_some}
+use Rattle.std.specs.Fmt.{decimal}
+use Rattle.hex.specs.Hex.{encode_lower}
+use Rattle.ascii_bytes.specs.Classes.{between, is_digit}
+use Rattle.res_base.specs.declared.reading.Check.{Check}
+use Rattle.cache_layout.specs.Lines.{IsDigest, check_text, checks_text, digests_text, fields_text, length_text, moment_text, sha256_text}
+use Rattle.cache_layout.specs.declared.record.Record.{Record}
+use Rattle.cache_layout.specs.declared.record_lines.Digests.{Digests}
+use Rattle.cache_layout.specs.declared.record_lines.Ends.{Ends}
+use Rattle.cache_layout.specs.declared.record_lines.Times.{Times}
+
+-- a decimal number from `least` to `most`, without leading zeros
+pub record IsNumber (least most : ℕ) (text : List ℕ) (number : ℕ) : Type 0 where
+  pub whole : text ≡ decimal number
+  pub low : least ≤ number
+  pub high : number ≤ most
+
+abbrev pub IsCheckName : List ℕ → Check → Type 0
+IsCheckName text check = text ≡ check_text check
+
+abbrev pub AreChecks : List ℕ → List Check → Type 0
+AreChecks text checks = text ≡ checks_text checks
+
+-- 0-9 a-f
+abbrev pub is_small_digit : ℕ → Bool
+is_small_digit byte = is_digit byte || between 97 102 byte
+
+pub record IsDigestText (size : ℕ) (text digest : List ℕ) : Type 0 where
+  pub whole : text ≡ encode_lower digest
+  pub fits : IsDigest size digest
+
+pub record IsMomentText (text : List ℕ) (moment : ℕ) : Type 0 where
+  pub whole : text ≡ moment_text moment
+  pub small : moment < 2 ^ 64
+
+pub record IsLengthText (text : List ℕ) (times : Times) : Type 0 where
+  pub whole : text ≡ length_text times.length times.moment
+  pub small_length : times.length < 2 ^ 64
+  pub small_moment : times.moment < 2 ^ 64
+
+-- of format 2, or of format 1
+pub record IsEndText (second : Bool) (text : List ℕ) (ends : Ends) : Type 0 where
+  pub whole : text ≡ sha256_text ends.sha256 ends.times.length ends.times.moment
+  pub format : is_some ends.sha256 ≡ second
+  pub sha256 : IfSome ends.sha256 (IsDigest 32)
+  pub small_length : ends.times.length < 2 ^ 64
+  pub small_moment : ends.times.moment < 2 ^ 64
+
+pub record IsDigestsText (second : Bool) (text : List ℕ) (digests : Digests) : Type 0 where
+  pub whole : text ≡ digests_text digests.sha1 digests.ends.sha256 digests.ends.times.length digests.ends.times.moment
+  pub format : is_some digests.ends.sha256 ≡ second
+  pub sha1 : IsDigest 20 digests.sha1
+  pub sha256 : IfSome digests.ends.sha256 (IsDigest 32)
+  pub small_length : digests.ends.times.length < 2 ^ 64
+  pub small_moment : digests.ends.times.moment < 2 ^ 64
+
+pub record IsFieldsText (second : Bool) (text : List ℕ) (entry : Record) : Type 0 where
+  pub whole : text ≡ fields_text entry
+  pub format : is_some entry.sha256 ≡ second
+  pub sha1 : IsDigest 20 entry.sha1
+  pub sha256 : IfSome entry.sha256 (IsDigest 32)
+  pub small_length : entry.length < 2 ^ 64
+  pub small_moment : entry.moment < 2 ^ 64

@@ -1,0 +1,167 @@
+//! Addresses of repositories, and where texts leave their form.
+ghost use Rattle.std.specs.Prelude.{◌≡◌, IfErr, OnOk, IsTrue, true};
+ghost use Rattle.std.specs.List.{list_all};
+ghost use Rattle.fault_place.specs.Place.{IsPlace};
+ghost use Rattle.res_base.specs.Plain.{is_at_most_two_dots};
+ghost use Rattle.link_base.specs.FilePaths.{is_segment_byte};
+ghost use Rattle.cache_layout.specs.Addresses.{IsAddress, IsAfterFile, IsAfterHttp, IsAuthority, IsFilePath, IsHost, IsPort, IsSegment, is_host_byte};
+
+use crate::numbers::read_number;
+use crate::pieces::{common, part};
+use ascii_bytes::{is_letter_or_digit, is_plain_byte};
+
+fn is_host_byte(byte: u8) -> bool
+    ensures { result ≡ is_host_byte byte }
+{
+    is_letter_or_digit(byte) || byte == b'.' || byte == b'-'
+}
+
+fn is_segment_byte(byte: u8) -> bool
+    ensures { result ≡ is_segment_byte byte }
+{
+    is_plain_byte(byte) || byte == b'~'
+}
+
+fn is_at_most_two_dots(text: &[u8]) -> bool
+    ensures { result ≡ is_at_most_two_dots text.now }
+{
+    text.iter().all(|byte| *byte == b'.') && text.len() <= 2
+}
+
+/// The place of the first byte that may not stand in a host.
+fn no_host_byte(text: &[u8]) -> Option<usize> {
+    text.iter().position(|byte| !is_host_byte(*byte))
+}
+
+fn no_segment_byte(text: &[u8]) -> Option<usize> {
+    text.iter().position(|byte| !is_segment_byte(*byte))
+}
+
+/// Whether the text is a host; else the place where it leaves that form. So too below.
+fn read_host(text: &[u8]) -> Result<(), usize>
+    ensures read { OnOk result (IsHost text.now) }
+    ensures refused { IfErr result (IsPlace IsHost text.now) }
+{
+    match no_host_byte(text) {
+        Some(place) => Err(place),
+        None => {
+            if is_at_most_two_dots(text) {
+                Err(text.len())
+            } else {
+                Ok(())
+            }
+        }
+    }
+}
+
+fn read_segment(text: &[u8]) -> Result<(), usize>
+    ensures read { OnOk result (IsSegment text.now) }
+    ensures refused { IfErr result (IsPlace IsSegment text.now) }
+{
+    match no_segment_byte(text) {
+        Some(place) => Err(place),
+        None => {
+            if is_at_most_two_dots(text) {
+                Err(text.len())
+            } else {
+                Ok(())
+            }
+        }
+    }
+}
+
+fn read_port(text: &[u8]) -> Result<(), usize>
+    ensures read { OnOk result (IsPort text.now) }
+    ensures refused { IfErr result (IsPlace IsPort text.now) }
+{
+    match read_number(text, 1, 65535) {
+        Ok(_) => Ok(()),
+        Err(place) => Err(place),
+    }
+}
+
+/// `HOST` or `HOST:PORT`.
+fn read_authority(text: &[u8]) -> Result<(), usize>
+    ensures read { OnOk result (IsAuthority text.now) }
+    ensures refused { IfErr result (IsPlace IsAuthority text.now) }
+{
+    let (host, rest) = part(text, b':');
+    read_host(host)?;
+    match rest {
+        [] => Ok(()),
+        [_, port @ ..] => match read_port(port) {
+            Ok(()) => Ok(()),
+            Err(place) => Err(host.len() + 1 + place),
+        },
+    }
+}
+
+/// Segments with a slash between two.
+fn read_file_path(text: &[u8]) -> Result<(), usize>
+    ensures read { OnOk result (IsFilePath text.now) }
+    ensures refused { IfErr result (IsPlace IsFilePath text.now) }
+{
+    let mut at = 0;
+    loop {
+        let (segment, rest) = part(&text[at..], b'/');
+        if let Err(place) = read_segment(segment) {
+            return Err(at + place);
+        }
+        if rest.is_empty() {
+            return Ok(());
+        }
+        at += segment.len() + 1;
+    }
+}
+
+/// What follows `http://`.
+fn read_after_http(text: &[u8]) -> Result<(), usize>
+    ensures read { OnOk result (IsAfterHttp text.now) }
+    ensures refused { IfErr result (IsPlace IsAfterHttp text.now) }
+{
+    let (authority, rest) = part(text, b'/');
+    read_authority(authority)?;
+    match rest {
+        [] => Ok(()),
+        [_, path @ ..] => match read_file_path(path) {
+            Ok(()) => Ok(()),
+            Err(place) => Err(authority.len() + 1 + place),
+        },
+    }
+}
+
+/// What follows `file:`.
+fn read_after_file(text: &[u8]) -> Result<(), usize>
+    ensures read { OnOk result (IsAfterFile text.now) }
+    ensures refused { IfErr result (IsPlace IsAfterFile text.now) }
+{
+    match text.strip_prefix(b"/") {
+        None => read_file_path(text),
+        Some(path) => match read_file_path(path) {
+            Ok(()) => Ok(()),
+            Err(place) => Err(1 + place),
+        },
+    }
+}
+
+/// Whether the text is an address.
+pub(crate) fn read_address(text: &[u8]) -> Result<(), usize>
+    ensures read { OnOk result (IsAddress text.now) }
+    ensures refused { IfErr result (IsPlace IsAddress text.now) }
+{
+    let http = b"http://";
+    let file = b"file:";
+    if let Some(rest) = text.strip_prefix(http) {
+        return match read_after_http(rest) {
+            Ok(()) => Ok(()),
+            Err(place) => Err(http.len() + place),
+        };
+    }
+    if let Some(rest) = text.strip_prefix(file) {
+        return match read_after_file(rest) {
+            Ok(()) => Ok(()),
+            Err(place) => Err(file.len() + place),
+        };
+    }
+    Err(common(http, text).max(common(file, text)))
+}

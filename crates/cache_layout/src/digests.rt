@@ -1,0 +1,43 @@
+//! Digests in a line.
+ghost use Rattle.std.specs.Prelude.{◌≡◌, ◌*◌, ◌<◌, ◌^◌, ◌↔◌, IfErr, IfOk, IsTrue, true, length};
+ghost use Rattle.std.specs.List.{list_all};
+ghost use Rattle.hex.specs.Hex.{encode_lower};
+ghost use Rattle.fault_place.specs.Place.{IsPlace};
+ghost use Rattle.fault_place.specs.Reader.{Accepts};
+ghost use Rattle.cache_layout.specs.Fields.{IsDigestText, is_small_digit};
+
+/// A hexadecimal digit with a small letter.
+fn is_small_digit(byte: u8) -> bool
+    ensures { result ≡ is_small_digit byte }
+{
+    matches!(byte, b'0'..=b'9' | b'a'..=b'f')
+}
+
+/// The first place at which the text is not so many hexadecimal digits, if it is not.
+fn digits_fault(text: &[u8], digits: usize) -> Option<usize> {
+    for (i, byte) in text.iter().enumerate() {
+        if i == digits || !is_small_digit(*byte) {
+            return Some(i);
+        }
+    }
+    if text.len() < digits {
+        Some(text.len())
+    } else {
+        None
+    }
+}
+
+/// Reads a digest of N bytes in hexadecimal digits with small letters; else the place where the
+/// text leaves that form.
+pub(crate) fn read_digest<const N: usize>(text: &[u8]) -> Result<[u8; N], usize>
+    requires { N < 100 }
+    ensures read { IfOk result (IsDigestText N text.now) }
+    ensures refused { IfErr result (IsPlace (Accepts (IsDigestText N)) text.now) }
+{
+    if let Some(place) = digits_fault(text, 2 * N) {
+        return Err(place);
+    }
+    let mut digest = [0; N];
+    let _ = hex::decode_to_slice(text, &mut digest);
+    Ok(digest)
+}
