@@ -1,5 +1,6 @@
 -- The fields of a line, each by itself and with what follows it.
-use Rattle.std.specs.Prelude.{◌≡◌, ℕ, ◌<◌, ◌≤◌, ◌^◌, Bool, ◌||◌, List, ◌∷◌, ◌++◌, Option, IfSome, is_some}
+use Rattle.std.specs.Prelude.{◌≡◌, ◌⊎◌, ℕ, ◌<◌, ◌≤◌, ◌^◌, Bool, true, false, ◌||◌, List, ◌∷◌, ◌++◌, Option, IfSome, is_some, length, slice_index, take}
+use Rattle.std.specs.List.{list_all}
 use Rattle.std.specs.Fmt.{decimal}
 use Rattle.hex.specs.Hex.{encode_lower}
 use Rattle.ascii_bytes.specs.Classes.{between, is_digit}
@@ -25,6 +26,14 @@ AreChecks text checks = text ≡ checks_text checks
 -- 0-9 a-f
 abbrev pub is_small_digit : ℕ → Bool
 is_small_digit byte = is_digit byte || between 97 102 byte
+
+-- so many bytes are digits, no more than there may be, and then comes another byte, one too many, or too early an end
+pub record StopsDigits (digits : ℕ) (text : List ℕ) (place : ℕ) : Type 0 where
+  pub within : place ≤ length text
+  pub few : place ≤ digits
+  pub before : list_all is_small_digit (take place text) ≡ true
+  pub stops : place < length text → (is_small_digit (slice_index text place) ≡ false) ⊎ (place ≡ digits)
+  pub ends : place ≡ length text → place < digits
 
 pub record IsDigestText (size : ℕ) (text digest : List ℕ) : Type 0 where
   pub whole : text ≡ encode_lower digest

@@ -6,7 +6,7 @@ ghost use Rattle.cache_layout.specs.Fields.{AreChecks, IsCheckName};
 ghost use Rattle.cache_layout.specs.Lines.{check_text, checks_text};
 
 use crate::errors::RecordErr;
-use crate::pieces::{common, part};
+use crate::pieces::{common, is_word, part};
 use res_base::{Check, List, NoMemory, Text};
 use std::alloc::Global;
 
@@ -41,18 +41,23 @@ fn read_check(name: &[u8]) -> Result<Check, usize>
     ensures read { IfOk result (IsCheckName name.now) }
     ensures refused { IfErr result (IsPlace (Accepts IsCheckName) name.now) }
 {
-    match name {
-        b"sha1" => Ok(Check::Sha1),
-        b"md5" => Ok(Check::Md5),
-        b"sha256" => Ok(Check::Sha256),
-        b"none" => Ok(Check::NoCheck),
-        _ => Err(
-            common(b"sha1", name)
-                .max(common(b"sha256", name))
-                .max(common(b"md5", name))
-                .max(common(b"none", name)),
-        ),
+    if is_word(name, b"sha1") {
+        return Ok(Check::Sha1);
     }
+    if is_word(name, b"md5") {
+        return Ok(Check::Md5);
+    }
+    if is_word(name, b"sha256") {
+        return Ok(Check::Sha256);
+    }
+    if is_word(name, b"none") {
+        return Ok(Check::NoCheck);
+    }
+    let sha1 = common(b"sha1", name);
+    let md5 = common(b"md5", name);
+    let sha256 = common(b"sha256", name);
+    let none = common(b"none", name);
+    Err(sha1.max(md5).max(sha256.max(none)))
 }
 
 /// Reads names of checks with a vertical bar between two; no name at all is the empty list.

@@ -1,10 +1,9 @@
 //! Digests in a line.
-ghost use Rattle.std.specs.Prelude.{◌≡◌, ◌*◌, ◌<◌, ◌^◌, ◌↔◌, IfErr, IfOk, IsTrue, true, length};
+ghost use Rattle.std.specs.Prelude.{◌≡◌, ◌*◌, ◌<◌, IfErr, IfOk, MatchOption, true, length};
 ghost use Rattle.std.specs.List.{list_all};
-ghost use Rattle.hex.specs.Hex.{encode_lower};
 ghost use Rattle.fault_place.specs.Place.{IsPlace};
 ghost use Rattle.fault_place.specs.Reader.{Accepts};
-ghost use Rattle.cache_layout.specs.Fields.{IsDigestText, is_small_digit};
+ghost use Rattle.cache_layout.specs.Fields.{IsDigestText, StopsDigits, is_small_digit};
 
 /// A hexadecimal digit with a small letter.
 fn is_small_digit(byte: u8) -> bool
@@ -14,7 +13,11 @@ fn is_small_digit(byte: u8) -> bool
 }
 
 /// The first place at which the text is not so many hexadecimal digits, if it is not.
-fn digits_fault(text: &[u8], digits: usize) -> Option<usize> {
+fn digits_fault(text: &[u8], digits: usize) -> Option<usize>
+    ensures { MatchOption result
+        ((list_all is_small_digit text.now ≡ true) × (length text.now ≡ digits))
+        (StopsDigits digits text.now) }
+{
     for (i, byte) in text.iter().enumerate() {
         if i == digits || !is_small_digit(*byte) {
             return Some(i);

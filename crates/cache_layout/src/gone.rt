@@ -8,7 +8,7 @@ ghost use Rattle.cache_layout.specs.Readings.{gone_in};
 
 use crate::errors::BadLine;
 use crate::numbers::read_number;
-use crate::pieces::{common, part};
+use crate::pieces::{common, is_word, part};
 use res_base::{NoMemory, Text};
 use std::alloc::Global;
 
@@ -33,10 +33,10 @@ pub(crate) fn read_moment(text: &[u8]) -> Result<u64, usize>
         Ok(moment) => moment,
         Err(place) => return Err(1 + place),
     };
-    match rest {
-        b"\n" => Ok(moment),
-        _ => Err(1 + number.len() + common(b"\n", rest)),
+    if is_word(rest, b"\n") {
+        return Ok(moment);
     }
+    Err(1 + number.len() + common(b"\n", rest))
 }
 
 /// Reads the line of an absence record, and gives its moment.

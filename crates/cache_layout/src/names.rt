@@ -1,9 +1,10 @@
 //! The names of files in the cache.
-ghost use Rattle.std.specs.Prelude.{◌≡◌, ◌++◌, ℕ, List, true, IfOk, OnOk, IsErrOf, OnErr, string_bytes, IsTrue};
+ghost use Rattle.std.specs.Prelude.{◌≡◌, ◌++◌, ◌<◌, ℕ, List, codes, true, IfOk, OnOk, IsErrOf, slice_index, string_bytes};
 ghost use Rattle.fault_place.specs.Place.{IsPlace};
 ghost use Rattle.res_base.specs.Paths.{url_at};
 ghost use Rattle.cache_layout.specs.Addresses.{IsAddress};
-ghost use Rattle.cache_layout.specs.Names.{escaped, escaped_byte, is_data_name, is_name_byte, name_of, upper_digit};
+ghost use Rattle.cache_layout.specs.Names.{escaped, escaped_byte, is_data_name, is_name_byte, name_of};
+ghost use Rattle.hex.specs.Hex.{upper_digits};
 
 use crate::addresses::read_address;
 use crate::errors::NameErr;
@@ -18,12 +19,11 @@ fn is_name_byte(byte: u8) -> bool
 }
 
 /// A hexadecimal digit with a capital letter.
-fn upper_digit(value: u8) -> u8 {
-    if value < 10 {
-        b'0' + value
-    } else {
-        b'A' + (value - 10)
-    }
+fn upper_digit(value: u8) -> u8
+    requires { value < 16 }
+    ensures { result ≡ slice_index upper_digits value }
+{
+    b"0123456789ABCDEF"[value as usize]
 }
 
 /// Puts a byte at the end of a name: as it is, or as `%` and two hexadecimal digits.
@@ -51,7 +51,9 @@ fn push_rest(name: &mut String, text: &[u8]) -> Result<(), NoMemory>
 }
 
 /// The name under a folder of what follows the scheme of a URL.
-fn name_in(alloc: Global, folder: &str, rest: &[u8]) -> Result<Text, NoMemory> {
+fn name_in(alloc: Global, folder: &str, rest: &[u8]) -> Result<Text, NoMemory>
+    ensures { IfOk result (λ name. name ≡ folder.now ++ escaped rest.now) }
+{
     let mut name = String::from_str(alloc, folder)?;
     push_rest(&mut name, rest)?;
     Ok(Text::from_string(name))
@@ -66,7 +68,7 @@ fn name_of(alloc: Global, url: &[u8]) -> Result<Text, NoMemory>
     }
     match url.strip_prefix(b"file:/") {
         Some(rest) => name_in(alloc, "file/", rest),
-        None => name_in(alloc, "here/", &url[5..]),
+        None => name_in(alloc, "here/", url.get(5..).unwrap_or(&[])),
     }
 }
 

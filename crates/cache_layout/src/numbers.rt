@@ -1,5 +1,5 @@
 //! Decimal numbers.
-ghost use Rattle.std.specs.Prelude.{◌≤◌, IfErr, IfOk};
+ghost use Rattle.std.specs.Prelude.{◌≡◌, ◌+◌, ◌*◌, ◌<◌, ◌≤◌, IfErr, IfOk, MatchOption};
 ghost use Rattle.fault_place.specs.Place.{IsPlace};
 ghost use Rattle.fault_place.specs.Reader.{Accepts};
 ghost use Rattle.cache_layout.specs.Fields.{IsNumber};
@@ -7,8 +7,11 @@ ghost use Rattle.cache_layout.specs.Fields.{IsNumber};
 use ascii_bytes::decimal_digit;
 
 /// The number with one more digit, unless that is more than `most`.
-fn with_digit(number: u64, digit: u8, most: u64) -> Option<u64> {
-    let more = number.checked_mul(10)?.checked_add(digit as u64)?;
+fn with_digit(number: u64, digit: u8, most: u64) -> Option<u64>
+    ensures { MatchOption result (most < number * 10 + digit) (λ more. (more ≡ number * 10 + digit) × (more ≤ most)) }
+{
+    let tens = number.checked_mul(10)?;
+    let more = tens.checked_add(digit as u64)?;
     if more <= most { Some(more) } else { None }
 }
 

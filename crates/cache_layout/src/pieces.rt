@@ -1,8 +1,6 @@
 //! Parts of texts, and where a text leaves a word.
-ghost use Rattle.std.specs.Prelude.{◌≡◌, ◌++◌, ◌≤◌};
+ghost use Rattle.std.specs.Prelude.{◌≡◌, ◌++◌, ◌↔◌, IsTrue};
 ghost use Rattle.cache_layout.specs.Places.{IsBefore, common};
-
-use ascii_bytes::cut_at;
 
 /// What stands before the first such byte, and the text from there on. Without one the second part
 /// is empty.
@@ -10,20 +8,29 @@ pub(crate) fn part(text: &[u8], byte: u8) -> (&[u8], &[u8])
     ensures whole { text.now ≡ result.0.now ++ result.1.now }
     ensures before { IsBefore byte result.0.now result.1.now }
 {
-    match cut_at(text, byte) {
-        None => (text, &[]),
-        Some((first, _)) => (first, &text[first.len()..]),
+    for (i, b) in text.iter().enumerate() {
+        if *b == byte {
+            return (&text[..i], &text[i..]);
+        }
     }
+    (text, &[])
 }
 
-/// How many bytes of the text are those of a word.
+/// How many bytes at the start of a word and of a text are the same.
 pub(crate) fn common(word: &[u8], text: &[u8]) -> usize
     ensures { result ≡ common word.now text.now }
 {
-    for i in 0..word.len().min(text.len()) {
+    let end = word.len().min(text.len());
+    for i in 0..end {
         if word[i] != text[i] {
             return i;
         }
     }
-    word.len().min(text.len())
+    end
+}
+
+pub(crate) fn is_word(text: &[u8], word: &[u8]) -> bool
+    ensures { IsTrue result ↔ (text.now ≡ word.now) }
+{
+    text == word
 }

@@ -1,5 +1,5 @@
 //! Lines of records.
-ghost use Rattle.std.specs.Prelude.{◌≡◌, Some, None, IfErr, IfOk, IsErrOf, ℕ};
+ghost use Rattle.std.specs.Prelude.{◌≡◌, ◌+◌, ◌<◌, Some, None, IfErr, IfOk, IsErrOf, ℕ, true};
 ghost use Rattle.fault_place.specs.Place.{IsPlace};
 ghost use Rattle.fault_place.specs.Reader.{Accepts};
 ghost use Rattle.cache_layout.specs.Fields.{IsDigestsText, IsEndText, IsFieldsText, IsLengthText};
@@ -76,7 +76,10 @@ fn read_length(text: &[u8]) -> Result<Times, usize>
 }
 
 /// A space, a SHA-256 and what follows it, likewise.
-fn read_sha256(text: &[u8]) -> Result<Ends, usize> {
+fn read_sha256(text: &[u8]) -> Result<Ends, usize>
+    ensures read { IfOk result (IsEndText true text.now) }
+    ensures refused { IfErr result (IsPlace (Accepts (IsEndText true)) text.now) }
+{
     let Some(after) = text.strip_prefix(b" ") else {
         return Err(0);
     };
@@ -130,6 +133,23 @@ fn read_digests(text: &[u8], second: bool) -> Result<Digests, usize>
     }
 }
 
+fn record_of(checks: List<Check>, digests: Digests) -> Record
+    ensures checks { result.checks ≡ checks }
+    ensures digests { (result.sha1 ≡ digests.sha1) × (result.sha256 ≡ digests.ends.sha256) }
+    ensures times { (result.length ≡ digests.ends.times.length) × (result.moment ≡ digests.ends.times.moment) }
+{
+    let Digests { sha1, ends } = digests;
+    let Ends { sha256, times } = ends;
+    let Times { length, moment } = times;
+    Record {
+        checks,
+        sha1,
+        sha256,
+        length,
+        moment,
+    }
+}
+
 /// A space, the names of checks and what follows them, likewise.
 fn read_fields(alloc: Global, text: &[u8], second: bool) -> Result<Record, RecordErr>
     ensures read { IfOk result (IsFieldsText second text.now) }
@@ -145,13 +165,7 @@ fn read_fields(alloc: Global, text: &[u8], second: bool) -> Result<Record, Recor
         Err(RecordErr::NoMemory) => return Err(RecordErr::NoMemory),
     };
     match read_digests(rest, second) {
-        Ok(digests) => Ok(Record {
-            checks,
-            sha1: digests.sha1,
-            sha256: digests.ends.sha256,
-            length: digests.ends.times.length,
-            moment: digests.ends.times.moment,
-        }),
+        Ok(digests) => Ok(record_of(checks, digests)),
         Err(place) => Err(RecordErr::BadLine(1 + names.len() + place)),
     }
 }
