@@ -1,6 +1,11 @@
--- Lemmas on places in texts of parts.
+-- Lemmas on the texts of names and lines, and where texts leave their grammars.
+pub mod CheckLists
+pub mod Decimals
+pub mod HexDigests
 pub mod Literals
-pub mod Numbers
+pub mod Named
 pub mod Parts
+pub mod Tailed
 pub mod Tails
+pub mod With
 pub mod Words

@@ -4,19 +4,25 @@ use Rattle.std.specs.Fmt.{decimal}
 use Rattle.std.specs.List.{list_all, starts_with}
 use Rattle.ascii_bytes.specs.Classes.{is_letter_or_digit}
 use Rattle.ascii_bytes.specs.Digits as digits
-use Rattle.ascii_bytes.specs.Parts.{cut_at}
 use Rattle.ascii_bytes.specs.Signs.{colon, dash, dot, slash}
 use Rattle.res_base.specs.Names.{text_eq}
 use Rattle.res_base.specs.Plain.{is_at_most_two_dots}
-use Rattle.link_base.specs.FilePaths.{is_file_path, is_segment}
+use Rattle.link_base.specs.FilePaths.{is_file_path}
+use Rattle.cache_layout.specs.Places.{before, behind}
 
 -- A-Z a-z 0-9 . -
 abbrev pub is_host_byte : ℕ → Bool
 is_host_byte byte = is_letter_or_digit byte || (byte == dot || byte == dash)
 
--- one or more of these, and neither one dot nor two
+-- one or more bytes of a class, and neither one dot nor two
+abbrev pub is_named : (ℕ → Bool) → List ℕ → Bool
+is_named has text = list_all has text && not (is_at_most_two_dots text)
+
+abbrev pub IsNamed : (ℕ → Bool) → List ℕ → Type 0
+IsNamed has text = is_named has text ≡ true
+
 abbrev pub is_host : List ℕ → Bool
-is_host text = list_all is_host_byte text && not (is_at_most_two_dots text)
+is_host = is_named is_host_byte
 
 -- a number from 1 to 65535, written without leading zeros
 abbrev pub is_port : List ℕ → Bool
@@ -26,12 +32,12 @@ is_port text =
 
 -- a first part alone, or a first part, a sign and a second part
 module _ (is_first : List ℕ → Bool) (sign : ℕ) (is_second : List ℕ → Bool) where
-  abbrev pub are_parts : List ℕ → Option (List ℕ × List ℕ) → Bool
-  are_parts text None = is_first text
-  are_parts text (Some parts) = is_first parts.0 && is_second parts.1
+  abbrev pub are_parts : List ℕ → Option (List ℕ) → Bool
+  are_parts first None = is_first first
+  are_parts first (Some second) = is_first first && is_second second
 
   abbrev pub is_with : List ℕ → Bool
-  is_with text = are_parts text (cut_at (λ byte. byte == sign) text)
+  is_with text = are_parts (before sign text) (behind sign text)
 
 -- HOST or HOST:PORT
 abbrev pub is_authority : List ℕ → Bool
@@ -50,14 +56,8 @@ is_address text =
     if starts_with nat_eq text (codes "http://") then is_after_http (drop 7 text) else
     if starts_with nat_eq text (codes "file:") then is_after_file (drop 5 text) else false
 
-abbrev pub IsHost : List ℕ → Type 0
-IsHost text = is_host text ≡ true
-
 abbrev pub IsPort : List ℕ → Type 0
 IsPort text = is_port text ≡ true
-
-abbrev pub IsSegment : List ℕ → Type 0
-IsSegment text = is_segment text ≡ true
 
 abbrev pub IsFilePath : List ℕ → Type 0
 IsFilePath text = is_file_path text ≡ true

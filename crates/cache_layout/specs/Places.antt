@@ -1,5 +1,15 @@
 -- Parts of a text up to a sign, and how far a text is a word.
-use Rattle.std.specs.Prelude.{◌≡◌, ◌⊎◌, ℕ, suc, List, [], ◌∷◌, ◌==◌, if◌then◌else◌}
+use Rattle.std.specs.Prelude.{◌≡◌, ◌⊎◌, ℕ, suc, List, [], ◌∷◌, Option, Some, None, ◌==◌, if◌then◌else◌}
+
+-- what stands before the first such sign, or the whole text
+abbrev pub before : ℕ → List ℕ → List ℕ
+before sign [] = []
+before sign (byte ∷ text) = if byte == sign then [] else byte ∷ before sign text
+
+-- what stands behind it, if it is there
+abbrev pub behind : ℕ → List ℕ → Option (List ℕ)
+behind sign [] = None
+behind sign (byte ∷ text) = if byte == sign then Some text else behind sign text
 
 -- none of these bytes is the sign
 abbrev pub Lacks : ℕ → List ℕ → Type 0

@@ -4,11 +4,11 @@ ghost use Rattle.std.specs.List.{list_all};
 ghost use Rattle.fault_place.specs.Place.{IsPlace};
 ghost use Rattle.res_base.specs.Plain.{is_at_most_two_dots};
 ghost use Rattle.link_base.specs.FilePaths.{is_segment_byte};
-ghost use Rattle.cache_layout.specs.Addresses.{IsAddress, IsAfterFile, IsAfterHttp, IsAuthority, IsFilePath, IsHost, IsPort, IsSegment, is_host_byte};
+ghost use Rattle.cache_layout.specs.Addresses.{IsAddress, IsAfterFile, IsAfterHttp, IsAuthority, IsFilePath, IsNamed, IsPort, is_host_byte};
 
 use crate::numbers::read_number;
-use crate::pieces::{common, part};
-use ascii_bytes::{is_letter_or_digit, is_plain_byte};
+use crate::pieces::{behind, common, part};
+use ascii_bytes::{ByteClass, class_end, is_letter_or_digit, is_plain_byte};
 
 fn is_host_byte(byte: u8) -> bool
     ensures { result ≡ is_host_byte byte }
@@ -28,46 +28,43 @@ fn is_at_most_two_dots(text: &[u8]) -> bool
     text.iter().all(|byte| *byte == b'.') && text.len() <= 2
 }
 
-/// The place of the first byte that may not stand in a host.
-fn no_host_byte(text: &[u8]) -> Option<usize> {
-    text.iter().position(|byte| !is_host_byte(*byte))
-}
+/// The bytes of hosts.
+struct HostByte;
 
-fn no_segment_byte(text: &[u8]) -> Option<usize> {
-    text.iter().position(|byte| !is_segment_byte(*byte))
-}
+/// The bytes of segments.
+struct SegmentByte;
 
-/// Whether the text is a host; else the place where it leaves that form. So too below.
-fn read_host(text: &[u8]) -> Result<(), usize>
-    ensures read { OnOk result (IsHost text.now) }
-    ensures refused { IfErr result (IsPlace IsHost text.now) }
-{
-    match no_host_byte(text) {
-        Some(place) => Err(place),
-        None => {
-            if is_at_most_two_dots(text) {
-                Err(text.len())
-            } else {
-                Ok(())
-            }
-        }
+impl ByteClass for HostByte {
+    ghost has = { is_host_byte };
+
+    fn has(byte: u8) -> bool {
+        is_host_byte(byte)
     }
 }
 
-fn read_segment(text: &[u8]) -> Result<(), usize>
-    ensures read { OnOk result (IsSegment text.now) }
-    ensures refused { IfErr result (IsPlace IsSegment text.now) }
-{
-    match no_segment_byte(text) {
-        Some(place) => Err(place),
-        None => {
-            if is_at_most_two_dots(text) {
-                Err(text.len())
-            } else {
-                Ok(())
-            }
-        }
+impl ByteClass for SegmentByte {
+    ghost has = { is_segment_byte };
+
+    fn has(byte: u8) -> bool {
+        is_segment_byte(byte)
     }
+}
+
+/// Whether the text is one or more bytes of a class, and neither one dot nor two; else the place
+/// where it leaves that form.
+fn read_named<C: ByteClass>(text: &[u8]) -> Result<(), usize>
+    requires { C.has 97 ≡ true }
+    ensures read { OnOk result (IsNamed C.has text.now) }
+    ensures refused { IfErr result (IsPlace (IsNamed C.has) text.now) }
+{
+    let end = class_end::<C>(text, 0);
+    if end < text.len() {
+        return Err(end);
+    }
+    if is_at_most_two_dots(text) {
+        return Err(text.len());
+    }
+    Ok(())
 }
 
 fn read_port(text: &[u8]) -> Result<(), usize>
@@ -86,7 +83,7 @@ fn read_authority(text: &[u8]) -> Result<(), usize>
     ensures refused { IfErr result (IsPlace IsAuthority text.now) }
 {
     let (host, rest) = part(text, b':');
-    read_host(host)?;
+    read_named::<HostByte>(host)?;
     match rest {
         [] => Ok(()),
         [_, port @ ..] => match read_port(port) {
@@ -104,7 +101,7 @@ fn read_file_path(text: &[u8]) -> Result<(), usize>
     let mut at = 0;
     loop {
         let (segment, rest) = part(&text[at..], b'/');
-        if let Err(place) = read_segment(segment) {
+        if let Err(place) = read_named::<SegmentByte>(segment) {
             return Err(at + place);
         }
         if rest.is_empty() {
@@ -135,7 +132,7 @@ fn read_after_file(text: &[u8]) -> Result<(), usize>
     ensures read { OnOk result (IsAfterFile text.now) }
     ensures refused { IfErr result (IsPlace IsAfterFile text.now) }
 {
-    match text.strip_prefix(b"/") {
+    match behind(text, b"/") {
         None => read_file_path(text),
         Some(path) => match read_file_path(path) {
             Ok(()) => Ok(()),
@@ -151,13 +148,13 @@ pub(crate) fn read_address(text: &[u8]) -> Result<(), usize>
 {
     let http = b"http://";
     let file = b"file:";
-    if let Some(rest) = text.strip_prefix(http) {
+    if let Some(rest) = behind(text, http) {
         return match read_after_http(rest) {
             Ok(()) => Ok(()),
             Err(place) => Err(http.len() + place),
         };
     }
-    if let Some(rest) = text.strip_prefix(file) {
+    if let Some(rest) = behind(text, file) {
         return match read_after_file(rest) {
             Ok(()) => Ok(()),
             Err(place) => Err(file.len() + place),

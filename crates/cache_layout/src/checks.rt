@@ -72,10 +72,11 @@ pub(crate) fn read_checks(alloc: Global, names: &[u8]) -> Result<List<Check>, Re
     let mut at = 0;
     loop {
         let (name, rest) = part(&names[at..], b'|');
-        match read_check(name) {
-            Ok(check) => checks.push(check)?,
+        let check = match read_check(name) {
+            Ok(check) => check,
             Err(place) => return Err(RecordErr::BadLine(at + place)),
-        }
+        };
+        checks.push(check)?;
         if rest.is_empty() {
             return Ok(checks);
         }

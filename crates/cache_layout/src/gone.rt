@@ -8,7 +8,7 @@ ghost use Rattle.cache_layout.specs.Readings.{gone_in};
 
 use crate::errors::BadLine;
 use crate::numbers::read_number;
-use crate::pieces::{common, is_word, part};
+use crate::pieces::{behind, common, is_word, part};
 use res_base::{NoMemory, Text};
 use std::alloc::Global;
 
@@ -25,7 +25,7 @@ pub(crate) fn read_moment(text: &[u8]) -> Result<u64, usize>
     ensures read { IfOk result (IsMomentText text.now) }
     ensures refused { IfErr result (IsPlace (Accepts IsMomentText) text.now) }
 {
-    let Some(after) = text.strip_prefix(b" ") else {
+    let Some(after) = behind(text, b" ") else {
         return Err(0);
     };
     let (number, rest) = part(after, b'\n');
@@ -47,7 +47,7 @@ pub fn read_gone(bytes: &[u8]) -> Result<u64, BadLine>
     ensures refused { IfErr result (λ e. IsPlace (Accepts IsGoneLine) bytes.now e.0) }
 {
     let begin = b"coursier-gone 1";
-    match bytes.strip_prefix(begin) {
+    match behind(bytes, begin) {
         None => Err(BadLine(common(begin, bytes))),
         Some(rest) => match read_moment(rest) {
             Ok(moment) => Ok(moment),

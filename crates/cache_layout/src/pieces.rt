@@ -1,5 +1,5 @@
 //! Parts of texts, and where a text leaves a word.
-ghost use Rattle.std.specs.Prelude.{◌≡◌, ◌++◌, ◌↔◌, IsTrue};
+ghost use Rattle.std.specs.Prelude.{◌≡◌, ◌≢◌, ◌++◌, ◌↔◌, ℕ, IfNone, IfSome, IsTrue, List};
 ghost use Rattle.cache_layout.specs.Places.{IsBefore, common};
 
 /// What stands before the first such byte, and the text from there on. Without one the second part
@@ -27,6 +27,14 @@ pub(crate) fn common(word: &[u8], text: &[u8]) -> usize
         }
     }
     end
+}
+
+/// What stands behind a word with which the text begins.
+pub(crate) fn behind<'a>(text: &'a [u8], word: &[u8]) -> Option<&'a [u8]>
+    ensures rest { IfSome result (λ rest. text.now ≡ word.now ++ rest.now) }
+    ensures none { IfNone result ((rest : List ℕ) → text.now ≢ word.now ++ rest) }
+{
+    text.strip_prefix(word)
 }
 
 pub(crate) fn is_word(text: &[u8], word: &[u8]) -> bool

@@ -11,7 +11,7 @@ use crate::digests::read_digest;
 use crate::errors::RecordErr;
 use crate::gone::read_moment;
 use crate::numbers::read_number;
-use crate::pieces::{common, part};
+use crate::pieces::{behind, common, part};
 use crate::record::Record;
 use res_base::{Check, List, NoMemory, Text};
 use std::alloc::Global;
@@ -61,7 +61,7 @@ fn read_length(text: &[u8]) -> Result<Times, usize>
     ensures read { IfOk result (IsLengthText text.now) }
     ensures refused { IfErr result (IsPlace (Accepts IsLengthText) text.now) }
 {
-    let Some(after) = text.strip_prefix(b" ") else {
+    let Some(after) = behind(text, b" ") else {
         return Err(0);
     };
     let (number, rest) = part(after, b' ');
@@ -80,7 +80,7 @@ fn read_sha256(text: &[u8]) -> Result<Ends, usize>
     ensures read { IfOk result (IsEndText true text.now) }
     ensures refused { IfErr result (IsPlace (Accepts (IsEndText true)) text.now) }
 {
-    let Some(after) = text.strip_prefix(b" ") else {
+    let Some(after) = behind(text, b" ") else {
         return Err(0);
     };
     let (digits, rest) = part(after, b' ');
@@ -119,7 +119,7 @@ fn read_digests(text: &[u8], second: bool) -> Result<Digests, usize>
     ensures read { IfOk result (IsDigestsText second text.now) }
     ensures refused { IfErr result (IsPlace (Accepts (IsDigestsText second)) text.now) }
 {
-    let Some(after) = text.strip_prefix(b" ") else {
+    let Some(after) = behind(text, b" ") else {
         return Err(0);
     };
     let (digits, rest) = part(after, b' ');
@@ -155,7 +155,7 @@ fn read_fields(alloc: Global, text: &[u8], second: bool) -> Result<Record, Recor
     ensures read { IfOk result (IsFieldsText second text.now) }
     ensures refused { (n : ℕ) → IsErrOf result (RecordErr.BadLine n) → IsPlace (Accepts (IsFieldsText second)) text.now n }
 {
-    let Some(after) = text.strip_prefix(b" ") else {
+    let Some(after) = behind(text, b" ") else {
         return Err(RecordErr::BadLine(0));
     };
     let (names, rest) = part(after, b' ');
@@ -193,11 +193,13 @@ pub fn read_record(alloc: Global, bytes: &[u8]) -> Result<Record, RecordErr>
 {
     let first = b"coursier-cache 1";
     let second = b"coursier-cache 2";
-    if let Some(rest) = bytes.strip_prefix(first) {
+    if let Some(rest) = behind(bytes, first) {
         return read_behind(alloc, first.len(), rest, false);
     }
-    if let Some(rest) = bytes.strip_prefix(second) {
+    if let Some(rest) = behind(bytes, second) {
         return read_behind(alloc, second.len(), rest, true);
     }
-    Err(RecordErr::BadLine(common(first, bytes)))
+    Err(RecordErr::BadLine(
+        common(first, bytes).max(common(second, bytes)),
+    ))
 }

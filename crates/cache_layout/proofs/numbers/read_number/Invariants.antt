@@ -1,4 +1,4 @@
-use Rattle.cache_layout.proofs.Numbers.{Before}
+use Rattle.cache_layout.proofs.Decimals.{Before}
 use Rattle.cache_layout.proofs.numbers.read_number.Given as goal
 
 abbrev pub invariant-loop-i : goal.invariant-loop-i
