@@ -1,0 +1,2 @@
+-- Lists of checks, place by place.
+mod CheckPlaces
