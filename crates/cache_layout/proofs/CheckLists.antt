@@ -23,14 +23,14 @@ name_class Sha256 = refl
 name_class NoCheck = refl
 
 pub name_lacks : (sign : ℕ) → is_letter_or_digit sign ≡ false → (check : Check) → Lacks sign (check_text check)
-name_lacks sign no check = lacks_class is_letter_or_digit sign (check_text check) no (name_class check)
+name_lacks sign never check = lacks_class is_letter_or_digit sign (check_text check) never (name_class check)
 
 pub checks_lack : (sign : ℕ) → is_letter_or_digit sign ≡ false → (124 ≡ sign → ⊥) → (checks : List Check)
     → Lacks sign (checks_text checks)
-checks_lack sign no bar [] = tt
-checks_lack sign no bar (c ∷ []) = name_lacks sign no c
-checks_lack sign no bar (c ∷ (d ∷ checks)) = lacks_append sign (check_text c) (124 ∷ checks_text (d ∷ checks))
-    (name_lacks sign no c) (bar, checks_lack sign no bar (d ∷ checks))
+checks_lack sign never bar [] = tt
+checks_lack sign never bar (c ∷ []) = name_lacks sign never c
+checks_lack sign never bar (c ∷ (d ∷ checks)) = lacks_append sign (check_text c) (124 ∷ checks_text (d ∷ checks))
+    (name_lacks sign never c) (bar, checks_lack sign never bar (d ∷ checks))
 
 -- where a name leaves the names of checks
 
@@ -162,8 +162,8 @@ leaves_all text n some at = same_place (Either IsEmpty AreSome) (Accepts AreChec
     back t ([], e) = inl e
     back t (c ∷ checks, e) = inr (record { first = c; others = checks; whole = e })
     nothing : (t : List ℕ) → (t ≡ [] → ⊥) → IsPlace IsEmpty t 0
-    nothing [] no = absurd (no refl)
-    nothing (x ∷ t) no = no_nothing x t
+    nothing [] never = absurd (never refl)
+    nothing (x ∷ t) never = no_nothing x t
 
 -- what is known after some names: where the rest leaves the checks, the whole does, and what the rest spells goes on
 pub record IsSoFar (names : List ℕ) (at : ℕ) (checks : List Check) : Type 0 where

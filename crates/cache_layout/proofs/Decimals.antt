@@ -4,14 +4,14 @@ use Rattle.std.specs.Prelude.{nat_le}
 use Rattle.std.specs.Fmt.{decimal}
 use Rattle.std.specs.List.{list_all}
 use Rattle.std.proofs.Math.Nat.{div-lt_self}
-use Rattle.std.proofs.lemmas.Bool.{and_from, cases_lt, le-leb}
+use Rattle.std.proofs.lemmas.Bool.{and_from, and_parts, cases_lt, le-leb, leb-true}
 use Rattle.std.proofs.lemmas.Fmt.{decimal_step, decimal_digit, decimal_by_steps, decimal_injective, decimal_nonempty}
 use Rattle.std.proofs.lemmas.List.{append_assoc, append-nil, append_cancel_left, length-append, length-take-le, take-append-drop, take_more, take_all}
 use Rattle.std.proofs.lemmas.List.Folds.{list_all-append}
 use Rattle.fault_place.specs.Place.{GoesOn, IsPlace}
 use Rattle.fault_place.specs.Reader.{Accepts}
 use Rattle.ascii_bytes.specs.Classes.{is_digit}
-use Rattle.cache_layout.specs.Fields.{IsNumber}
+use Rattle.cache_layout.specs.Fields.{GoesOnTo, IsNumber}
 
 -- texts by their last byte
 
@@ -57,10 +57,10 @@ rest_is_small n = omega arith
 
 pub all_digits : (n : ℕ) → n < 2 ^ 64 → list_all is_digit (decimal n) ≡ true
 all_digits n small = decimal_by_steps (λ _ ds. list_all is_digit ds ≡ true)
-    (λ k few. rw digit_is k few refl)
+    (λ k few. rw (digit_is k few) refl)
     (λ k ds _ front. list_all-append is_digit ds ((48 + k % 10) ∷ [])
     ∙ and_from (list_all is_digit ds) (list_all is_digit ((48 + k % 10) ∷ [])) front
-    (rw digit_is (k % 10) (rest_is_small k) refl))
+    (rw (digit_is (k % 10) (rest_is_small k)) refl))
     n small
 
 -- the digit and the number before it, of a number of several digits
@@ -159,15 +159,6 @@ front_of number small = (decimal_by_steps HasFronts
 abbrev pub Before : ℕ → ℕ → List ℕ → ℕ → ℕ → Type 0
 Before least most text i number = ((i ≡ 0) × (number ≡ 0)) ⊎ IsNumber least most (take i text) number
 
--- what one more byte has to be
-pub record IsNext (least most i number byte : ℕ) : Type 0 where
-  pub digit : ℕ
-  pub is : byte ≡ 48 + digit
-  pub small : digit < 10
-  pub low : least ≤ number * 10 + digit
-  pub high : number * 10 + digit ≤ most
-  pub no_zero : 0 < i → 0 < number
-
 abbrev pub Number : ℕ → ℕ → List ℕ → Type 0
 Number least most = Accepts (IsNumber least most)
 
@@ -199,15 +190,15 @@ module _ (least most : ℕ) (low : least ≤ 1) (room : 9 ≤ most) (fits : most
   -- a byte after which no number begins
   pub number_stops : (text : List ℕ) (i number : ℕ) → i < length text → Before least most text i number
       → (Number least most (take (i + 1) text) → ⊥) → IsPlace (Number least most) text i
-  number_stops text i number inside before no =
+  number_stops text i number inside before never =
       let count = length-take-le (i + 1) text (omega (arith, inside)) in
       let some : 0 < length (take (i + 1) text) = omega (arith, count) in
       record {
         within = omega (arith, inside);
-        outside = λ is. no (number_front (take (i + 1) text) (drop (i + 1) text)
+        outside = λ is. never (number_front (take (i + 1) text) (drop (i + 1) text)
             (subst (Number least most) (sym (take-append-drop (i + 1) text)) is) some);
         goes_on = goes_before text i number before;
-        no_more = λ _ (rest, is). no (number_front (take (i + 1) text) rest is some);
+        no_more = λ _ (rest, is). never (number_front (take (i + 1) text) rest is some);
       }
 
   pub no_number : (text : List ℕ) → text ≡ [] → IsPlace (Number least most) text 0
@@ -222,23 +213,29 @@ module _ (least most : ℕ) (low : least ≤ 1) (room : 9 ≤ most) (fits : most
     no_more = λ more _. absurd (omega (arith, more));
   })
 
+  next_of : (i number byte digit : ℕ) → byte ≡ 48 + digit → digit < 10 → least ≤ number * 10 + digit
+      → number * 10 + digit ≤ most → (0 < i → 0 < number)
+      → GoesOnTo least most i number byte (number * 10 + digit)
+  next_of i number byte digit is few at_least at_most behind = record {
+    digit = ap is_digit is ∙ digit_is digit few;
+    value = let e : byte - 48 ≡ digit = omega (arith, is) in ap (λ d. number * 10 + d) (sym e);
+    low = at_least;
+    high = at_most;
+    no_zero = behind;
+  }
+
+  -- what one more byte has to be
   pub next_is : (text : List ℕ) (i number : ℕ) → i < length text → Before least most text i number
-      → Number least most (take (i + 1) text) → IsNext least most i number (get_or text i 0)
-  next_is text i number inside (inl (none, zero)) (value, is) =
+      → Number least most (take (i + 1) text) → (more : ℕ) × GoesOnTo least most i number (get_or text i 0) more
+  next_is text i number inside (inl (none, nought)) (value, is) =
       let small : value < 2 ^ 64 = let h = is.high in omega (arith, h, fits) in
       let byte = get_or text i 0 in
       let e : byte ∷ [] ≡ decimal value = sym (ap (λ k. take k text ++ byte ∷ []) none)
       ∙ sym (take_more text i 0 inside) ∙ is.whole in
       let one = single byte value small e in
-      let same : number * 10 + value ≡ value = omega (arith, zero) in
-      record {
-        digit = value;
-        is = one.1;
-        small = one.0;
-        low = let h = is.low in omega (arith, h, same);
-        high = let h = is.high in omega (arith, h, same);
-        no_zero = λ some. absurd (omega (arith, some, none));
-      }
+      let same : number * 10 + value ≡ value = omega (arith, nought) in
+      (number * 10 + value, next_of i number byte value one.1 one.0 (let h = is.low in omega (arith, h, same))
+      (let h = is.high in omega (arith, h, same)) (λ some. absurd (omega (arith, some, none))))
   next_is text i number inside (inr before) (value, is) =
       let small : value < 2 ^ 64 = let h = is.high in omega (arith, h, fits) in
       let number_small : number < 2 ^ 64 = let h = before.high in omega (arith, h, fits) in
@@ -249,17 +246,18 @@ module _ (least most : ℕ) (low : least ≤ 1) (room : 9 ≤ most) (fits : most
       let many = parts.0 in
       let tens = parts.1 in
       let same : number * 10 + value % 10 ≡ value = omega (arith, tens) in
-      record {
-        digit = value % 10;
-        is = parts.2;
-        small = rest_is_small value;
-        low = let h = is.low in omega (arith, h, same);
-        high = let h = is.high in omega (arith, h, same);
-        no_zero = λ _. omega (arith, many, tens);
-      }
+      (number * 10 + value % 10, next_of i number byte (value % 10) parts.2 (rest_is_small value)
+      (let h = is.low in omega (arith, h, same)) (let h = is.high in omega (arith, h, same))
+      (λ _. omega (arith, many, tens)))
 
-  -- one more digit
-  pub next : (text : List ℕ) (i number digit : ℕ) → i < length text → Before least most text i number
+  -- a byte with which no number goes on
+  pub stops_at_byte : (text : List ℕ) (i number : ℕ) → i < length text → Before least most text i number
+      → ((more : ℕ) → GoesOnTo least most i number (get_or text i 0) more → ⊥)
+      → IsPlace (Number least most) text i
+  stops_at_byte text i number inside before never = number_stops text i number inside before
+      (λ is. let goes = next_is text i number inside before is in never goes.0 goes.1)
+
+  next : (text : List ℕ) (i number digit : ℕ) → i < length text → Before least most text i number
       → get_or text i 0 ≡ 48 + digit → digit < 10 → (0 < i → 0 < number) → least ≤ number * 10 + digit
       → number * 10 + digit ≤ most → IsNumber least most (take (i + 1) text) (number * 10 + digit)
   next text i number digit inside (inl (none, zero)) is few no_zero at_least at_most =
@@ -295,3 +293,18 @@ module _ (least most : ℕ) (low : least ≤ 1) (room : 9 ≤ most) (fits : most
           let e : length (take i text) ≡ length (decimal number) = ap (λ t. length t) before.whole in
           let f : length (take i text) ≡ 0 = ap (λ k. length (take k text)) zero in
           absurd (omega (arith, some, e, f))
+
+  -- one more digit
+  pub goes_next : (text : List ℕ) (i number more : ℕ) → i < length text → Before least most text i number
+      → GoesOnTo least most i number (get_or text i 0) more → IsNumber least most (take (i + 1) text) more
+  goes_next text i number more inside before goes =
+      let byte = get_or text i 0 in
+      let ends = and_parts (nat_le 48 byte) (nat_le byte 57) goes.digit in
+      let from = leb-true 48 byte ends.0 in
+      let to = leb-true byte 57 ends.1 in
+      let is : byte ≡ 48 + (byte - 48) = omega (arith, from) in
+      let few : byte - 48 < 10 = omega (arith, from, to) in
+      let at_least : least ≤ number * 10 + (byte - 48) = let h = goes.low in let e = goes.value in omega (arith, h, e) in
+      let at_most : number * 10 + (byte - 48) ≤ most = let h = goes.high in let e = goes.value in omega (arith, h, e) in
+      subst (λ n. IsNumber least most (take (i + 1) text) n) (sym goes.value)
+      (next text i number (byte - 48) inside before is few goes.no_zero at_least at_most)

@@ -2,7 +2,7 @@
 use Rattle.std.proofs.Common.{◌≡◌, ◌⊎◌, inl, inr, ℕ, zero, suc, ◌+◌, ◌-◌, ◌*◌, ◌/◌, ◌%◌, ◌<◌, ◌≤◌, Bool, true, false, cond, not, ◌&&◌, ◌||◌, List, [], ◌∷◌, ◌++◌, length, take, drop, get_or, refl, sym, ◌∙◌, ap, subst, arith}
 use Rattle.std.specs.Prelude.{◌==◌, nat_le, slice_index}
 use Rattle.std.specs.List.{list_all}
-use Rattle.std.proofs.lemmas.Bool.{and_parts, and_from, cases_lt, eqb-true, leb-true}
+use Rattle.std.proofs.lemmas.Bool.{and_parts, and_from, cases_lt, eqb-true, leb-true, lt-leb}
 use Rattle.std.proofs.lemmas.List.{take-append-drop, length-append, length-take-le, take_all}
 use Rattle.std.proofs.lemmas.List.Folds.{list_all-append}
 use Rattle.fault_place.specs.Place.{GoesOn, IsPlace}
@@ -20,11 +20,11 @@ first_pass test (suc n) = test n && first_pass test n
 
 pub passes : (test : ℕ → Bool) (n k : ℕ) → first_pass test n ≡ true → k < n → test k ≡ true
 passes test zero k h below = absurd (omega (arith, below))
-passes test (suc n) k h below = by (cases_lt k n)
+passes test (suc n) k h below = by (cases_lt k n) (passes test n k (and_parts (test n) (first_pass test n) h).1)
   where
-    by : ((k < n) ⊎ (n ≤ k)) → test k ≡ true
-    by (inl under) = passes test n k (and_parts (test n) (first_pass test n) h).1 under
-    by (inr top) =
+    by : ((k < n) ⊎ (n ≤ k)) → (k < n → test k ≡ true) → test k ≡ true
+    by (inl under) front = front under
+    by (inr top) _ =
         let e : k ≡ n = omega (arith, below, top) in
         ap test e ∙ (and_parts (test n) (first_pass test n) h).0
 
@@ -44,7 +44,7 @@ small_digit_ends : (byte : ℕ) → is_small_digit byte ≡ true → byte < 103
 small_digit_ends byte h = by (cases_lt byte 103)
   where
     none : (n m : ℕ) → m < n → nat_le n m ≡ false
-    none n m less = grind (arith, less)
+    none n m less = lt-leb n m less
     by : ((byte < 103) ⊎ (103 ≤ byte)) → byte < 103
     by (inl below) = below
     by (inr past) =
@@ -53,7 +53,13 @@ small_digit_ends byte h = by (cases_lt byte 103)
         no_digit (nat_le 48 byte) (nat_le byte 57) (nat_le 97 byte) (nat_le byte 102) digit letter h
       where
         no_digit : (a b c d : Bool) → b ≡ false → d ≡ false → ((a && b) || (c && d)) ≡ true → byte < 103
-        no_digit a b c d e f g = absurd (grind (e, f, g))
+        no_digit true true c d e f g = cc
+        no_digit true false true true e f g = cc
+        no_digit true false true false e f g = cc
+        no_digit true false false d e f g = cc
+        no_digit false b true true e f g = cc
+        no_digit false b true false e f g = cc
+        no_digit false b false d e f g = cc
 
 or_right : (a b : Bool) → a ≡ true → (not a || b) ≡ true → b ≡ true
 or_right true b e h = h
@@ -103,7 +109,7 @@ record IsEncoded (text : List ℕ) : Type 0 where
   are : IsBytes bytes
 
 bytes_cons : (b : ℕ) (bytes : List ℕ) → b < 256 → IsBytes bytes → IsBytes (b ∷ bytes)
-bytes_cons b bytes small h 0 = small
+bytes_cons b bytes small h zero = small
 bytes_cons b bytes small h (suc i) = h i
 
 pair_back : (high low : ℕ) → high < 16 → low < 16
@@ -135,7 +141,7 @@ encoded size [] all len = record { bytes = []; whole = refl; are = λ i. none i 
     none : (i : ℕ) → slice_index [] i < 256
     none i = omega arith
 encoded size (a ∷ []) all len = let e : 1 ≡ 2 * size = len in absurd (omega (arith, e))
-encoded 0 (a ∷ (b ∷ rest)) all len = absurd (omega (arith, len))
+encoded zero (a ∷ (b ∷ rest)) all len = absurd (omega (arith, len))
 encoded (suc size) (a ∷ (b ∷ rest)) all len =
     let first = and_parts (is_small_digit a) (list_all is_small_digit (b ∷ rest)) all in
     let second = and_parts (is_small_digit b) (list_all is_small_digit rest) first.1 in
@@ -192,7 +198,7 @@ digits_stop digits text place at = record {
   where
     too_far : place < length text → (rest : List ℕ) → AreDigits digits (take (place + 1) text ++ rest)
         → ((is_small_digit (get_or text place 0) ≡ false) ⊎ (place ≡ digits)) → ⊥
-    too_far inside rest are (inl no) = not_all is_small_digit text rest place inside no are.0
+    too_far inside rest are (inl never) = not_all is_small_digit text rest place inside never are.0
     too_far inside rest are (inr past) =
         let e = length-append (take (place + 1) text) rest in
         let f = length-take-le (place + 1) text (omega (arith, inside)) in

@@ -1,11 +1,14 @@
 -- Lemmas on the texts of names and lines, and where texts leave their grammars.
+pub mod AddressParts
 pub mod CheckLists
 pub mod Decimals
+pub mod Escapes
 pub mod HexDigests
 pub mod Literals
 pub mod Named
 pub mod Parts
 pub mod Tailed
 pub mod Tails
+pub mod Values
 pub mod With
 pub mod Words

@@ -41,18 +41,18 @@ after_at sign G text n at = record {
 
 not_first : (sign : ℕ) (G : List ℕ → Type 0) (text : List ℕ)
     → ((rest : List ℕ) → text ≡ sign ∷ rest → ⊥) → 0 < length text → GoesOn (After sign G) (take (0 + 1) text) → ⊥
-not_first sign G [] no more (rest, after) = absurd (omega (arith, more))
-not_first sign G (x ∷ text) no more (rest, after) =
+not_first sign G [] never more (rest, after) = absurd (omega (arith, more))
+not_first sign G (x ∷ text) never more (rest, after) =
     let e : x ≡ sign = head_same x sign (take 0 text ++ rest) after.rest after.whole in
-    no text (ap (λ y. y ∷ text) e)
+    never text (ap (λ y. y ∷ text) e)
 
 pub not_after : (sign : ℕ) (G : List ℕ → Type 0) (text : List ℕ)
     → ((rest : List ℕ) → text ≡ sign ∷ rest → ⊥) → (k : List ℕ) → G k → IsPlace (After sign G) text 0
-not_after sign G text no k is = record {
+not_after sign G text never k is = record {
   within = omega arith;
-  outside = λ after. no after.rest after.whole;
+  outside = λ after. never after.rest after.whole;
   goes_on = (sign ∷ k, record { rest = k; whole = refl; is = is });
-  no_more = not_first sign G text no;
+  no_more = not_first sign G text never;
 }
 
 -- a word before a text of a grammar
@@ -85,14 +85,14 @@ behind_at word G text n at = record {
 pub not_behind : (word : List ℕ) (G : List ℕ → Type 0) (text : List ℕ)
     → ((rest : List ℕ) → text ≡ word ++ rest → ⊥) → (k : List ℕ) → G k
     → IsPlace (Behind word G) text (common word text)
-not_behind [] G text no k is = absurd (no text refl)
-not_behind (b ∷ word) G [] no k is = record {
+not_behind [] G text never k is = absurd (never text refl)
+not_behind (b ∷ word) G [] never k is = record {
   within = omega arith;
-  outside = λ behind. no behind.rest behind.whole;
+  outside = λ behind. never behind.rest behind.whole;
   goes_on = ((b ∷ word) ++ k, record { rest = k; whole = refl; is = is });
   no_more = λ more _. absurd (omega (arith, more));
 }
-not_behind (b ∷ word) G (c ∷ text) no k is = by (b == c) refl
+not_behind (b ∷ word) G (c ∷ text) never k is = by (b == c) refl (λ inside. not_behind word G text inside k is)
   where
     into : (t : List ℕ) → After b (Behind word G) t → Behind (b ∷ word) G t
     into t after = record {
@@ -107,48 +107,50 @@ not_behind (b ∷ word) G (c ∷ text) no k is = by (b == c) refl
       is = record { rest = behind.rest; whole = refl; is = behind.is };
     }
     by : (same : Bool) → (b == c) ≡ same
+        → (((rest : List ℕ) → text ≡ word ++ rest → ⊥) → IsPlace (Behind word G) text (common word text))
         → IsPlace (Behind (b ∷ word) G) (c ∷ text) (cond same (suc (common word text)) 0)
-    by true e =
+    by true e behind =
         let is_c : b ≡ c = eqb-true b c e in
-        let inner = not_behind word G text (λ rest f. no rest (ap (λ x. x ∷ text) (sym is_c) ∙ ap (λ t. b ∷ t) f)) k is in
+        let inner = behind (λ rest f. never rest (ap (λ x. x ∷ text) (sym is_c) ∙ ap (λ t. b ∷ t) f)) in
         same_place (After b (Behind word G)) (Behind (b ∷ word) G) (c ∷ text) (suc (common word text)) into back
         (subst (λ x. IsPlace (After b (Behind word G)) (x ∷ text) (suc (common word text))) is_c
         (after_at b (Behind word G) text (common word text) inner))
-    by false e =
+    by false e _ =
         same_place (After b (Behind word G)) (Behind (b ∷ word) G) (c ∷ text) 0 into back
         (not_after b (Behind word G) (c ∷ text) (λ rest f. eqb-false b c e (sym (head_same c b text rest f)))
         (word ++ k) (record { rest = k; whole = refl; is = is }))
 
 -- where a text leaves a word alone
 pub literal : (word text : List ℕ) → (text ≡ word → ⊥) → IsPlace (λ t. t ≡ word) text (common word text)
-literal [] [] no = absurd (no refl)
-literal [] (c ∷ text) no = record {
+literal [] [] never = absurd (never refl)
+literal [] (c ∷ text) never = record {
   within = omega arith;
-  outside = no;
+  outside = never;
   goes_on = ([], refl);
   no_more = λ _ (rest, e). cc;
 }
-literal (b ∷ word) [] no = record {
+literal (b ∷ word) [] never = record {
   within = omega arith;
-  outside = no;
+  outside = never;
   goes_on = (b ∷ word, refl);
   no_more = λ more _. absurd (omega (arith, more));
 }
-literal (b ∷ word) (c ∷ text) no = by (b == c) refl
+literal (b ∷ word) (c ∷ text) never = by (b == c) refl (literal word text)
   where
     into : (t : List ℕ) → After b (λ x. x ≡ word) t → t ≡ b ∷ word
     into t after = after.whole ∙ ap (λ x. b ∷ x) after.is
     back : (t : List ℕ) → t ≡ b ∷ word → After b (λ x. x ≡ word) t
     back t e = record { rest = word; whole = e; is = refl }
     by : (same : Bool) → (b == c) ≡ same
+        → ((text ≡ word → ⊥) → IsPlace (λ t. t ≡ word) text (common word text))
         → IsPlace (λ t. t ≡ b ∷ word) (c ∷ text) (cond same (suc (common word text)) 0)
-    by true e =
+    by true e shorter =
         let is_c : b ≡ c = eqb-true b c e in
-        let inner = literal word text (λ f. no (ap (λ x. x ∷ text) (sym is_c) ∙ ap (λ t. b ∷ t) f)) in
+        let inner = shorter (λ f. never (ap (λ x. x ∷ text) (sym is_c) ∙ ap (λ t. b ∷ t) f)) in
         same_place (After b (λ x. x ≡ word)) (λ t. t ≡ b ∷ word) (c ∷ text) (suc (common word text)) into back
         (subst (λ x. IsPlace (After b (λ y. y ≡ word)) (x ∷ text) (suc (common word text))) is_c
         (after_at b (λ x. x ≡ word) text (common word text) inner))
-    by false e =
+    by false e _ =
         same_place (After b (λ x. x ≡ word)) (λ t. t ≡ b ∷ word) (c ∷ text) 0 into back
         (not_after b (λ x. x ≡ word) (c ∷ text) (λ rest f. eqb-false b c e (sym (head_same c b text rest f)))
         word refl)

@@ -19,11 +19,11 @@ module _ (has : ℕ → Bool) where
   -- a text with another byte is not of the class
   pub not_all : {P : Type 0} (text rest : List ℕ) (i : ℕ) → i < length text → has (get_or text i 0) ≡ false
       → list_all has (take (i + 1) text ++ rest) ≡ true → P
-  not_all text rest i inside no all =
+  not_all text rest i inside never all =
       let front : list_all has (take i text ++ get_or text i 0 ∷ []) ≡ true =
       ap (list_all has) (sym (take_more text i 0 inside)) ∙ (all_both (take (i + 1) text) rest all).0 in
       let last = (all_both (take i text) (get_or text i 0 ∷ []) front).1 in
-      true_false (has (get_or text i 0)) (and_parts (has (get_or text i 0)) true last).0 no
+      true_false (has (get_or text i 0)) (and_parts (has (get_or text i 0)) true last).0 never
 
   module _ (letter : has 97 ≡ true) where
     with_letter : (text : List ℕ) → list_all has text ≡ true → IsNamed has (text ++ 97 ∷ [])
@@ -38,16 +38,16 @@ module _ (has : ℕ → Bool) where
     -- at a byte that is not of the class
     pub named_stops : (text : List ℕ) (i : ℕ) → i < length text → list_all has (take i text) ≡ true
         → has (get_or text i 0) ≡ false → IsPlace (IsNamed has) text i
-    named_stops text i inside all no = record {
+    named_stops text i inside all never = record {
       within = omega (arith, inside);
       outside = λ named.
           let bytes = (and_parts (list_all has text) (not (is_at_most_two_dots text)) named).0 in
           let e : list_all has (take (i + 1) text ++ drop (i + 1) text) ≡ true =
           ap (list_all has) (take-append-drop (i + 1) text) ∙ bytes in
-          not_all text (drop (i + 1) text) i inside no e;
+          not_all text (drop (i + 1) text) i inside never e;
       goes_on = (97 ∷ [], with_letter (take i text) all);
       no_more = λ _ (rest, named).
-          not_all text rest i inside no (and_parts (list_all has (take (i + 1) text ++ rest))
+          not_all text rest i inside never (and_parts (list_all has (take (i + 1) text ++ rest))
           (not (is_at_most_two_dots (take (i + 1) text ++ rest))) named).0;
     }
 

@@ -1,5 +1,5 @@
 -- Texts of two parts, the first without a sign with which the second begins, and where such texts leave their grammar.
-use Rattle.std.proofs.Common.{◌≡◌, ◌⊎◌, inl, inr, ℕ, suc, ◌+◌, ◌<◌, ◌≤◌, List, [], ◌∷◌, ◌++◌, length, take, refl, sym, ◌∙◌, ap, subst, arith, add-one}
+use Rattle.std.proofs.Common.{◌≡◌, ◌⊎◌, inl, inr, ℕ, zero, suc, ◌+◌, ◌<◌, ◌≤◌, List, [], ◌∷◌, ◌++◌, length, take, refl, sym, ◌∙◌, ap, subst, arith, add-one}
 use Rattle.std.proofs.Math.Seq.{take-append-add}
 use Rattle.std.proofs.lemmas.List.{append_assoc, take-append-le, length-append}
 use Rattle.std.proofs.lemmas.Bool.{cases_lt}
@@ -23,9 +23,9 @@ pub one_cut : (sign : ℕ) (a b c d : List ℕ) → Lacks sign a → Begins sign
     → a ++ b ≡ c ++ d → (a ≡ c) × (b ≡ d)
 one_cut sign [] b [] d p q r s e = (refl, e)
 one_cut sign [] b (y ∷ c) d p (inl none) r s e = none_first y (c ++ d) b none (sym e)
-one_cut sign [] b (y ∷ c) d p (inr (rest, is)) (no, r) s e = absurd (no (head_same y sign (c ++ d) rest (sym e ∙ is)))
+one_cut sign [] b (y ∷ c) d p (inr (rest, is)) (never, r) s e = absurd (never (head_same y sign (c ++ d) rest (sym e ∙ is)))
 one_cut sign (x ∷ a) b [] d p q r (inl none) e = none_first x (a ++ b) d none e
-one_cut sign (x ∷ a) b [] d (no, p) q r (inr (rest, is)) e = absurd (no (head_same x sign (a ++ b) rest (e ∙ is)))
+one_cut sign (x ∷ a) b [] d (never, p) q r (inr (rest, is)) e = absurd (never (head_same x sign (a ++ b) rest (e ∙ is)))
 one_cut sign (x ∷ a) b (y ∷ c) d (_, p) q (_, r) s e =
     let cut = one_cut sign a b c d p q r s (tail_same x y (a ++ b) (c ++ d) e) in
     (both_same x y a c (head_same x y (a ++ b) (c ++ d) e) cut.0, cut.1)
@@ -35,15 +35,15 @@ pub in_first : (sign : ℕ) (text rest a b : List ℕ) → Lacks sign text → B
     → (more : List ℕ) × (a ≡ text ++ more)
 in_first sign [] rest a b p q e = (a, refl)
 in_first sign (x ∷ text) rest [] b p (inl none) e = none_first x (text ++ rest) b none e
-in_first sign (x ∷ text) rest [] b (no, p) (inr (r, is)) e = absurd (no (head_same x sign (text ++ rest) r (e ∙ is)))
+in_first sign (x ∷ text) rest [] b (never, p) (inr (r, is)) e = absurd (never (head_same x sign (text ++ rest) r (e ∙ is)))
 in_first sign (x ∷ text) rest (y ∷ a) b (_, p) q e =
     let more = in_first sign text rest a b p q (tail_same x y (text ++ rest) (a ++ b) e) in
     (more.0, both_same y x a (text ++ more.0) (sym (head_same x y (text ++ rest) (a ++ b) e)) more.1)
 
 lacks_take : (sign n : ℕ) (text : List ℕ) → Lacks sign text → Lacks sign (take n text)
-lacks_take sign 0 text p = tt
+lacks_take sign zero text p = tt
 lacks_take sign (suc n) [] p = tt
-lacks_take sign (suc n) (x ∷ text) (no, p) = (no, lacks_take sign n text p)
+lacks_take sign (suc n) (x ∷ text) (never, p) = (never, lacks_take sign n text p)
 
 begins_take : (sign n : ℕ) (text rest : List ℕ) → n < length text → Begins sign text
     → Begins sign (take (n + 1) text ++ rest)

@@ -36,8 +36,8 @@ at_most : (n : ℕ) → n < 2 ^ 64 → n ≤ greatest
 at_most n h = omega (arith, h)
 
 number_lacks : (sign : ℕ) → is_digit sign ≡ false → (text : List ℕ) → Number text → Lacks sign text
-number_lacks sign no text (number, is) = subst (Lacks sign) (sym is.whole)
-    (lacks_class is_digit sign (decimal number) no (all_digits number (fits number is.high)))
+number_lacks sign never text (number, is) = subst (Lacks sign) (sym is.whole)
+    (lacks_class is_digit sign (decimal number) never (all_digits number (fits number is.high)))
 
 number_of : (n : ℕ) → n < 2 ^ 64 → Number (decimal n)
 number_of n small = (n, record { whole = refl; low = omega arith; high = at_most n small })
@@ -208,7 +208,7 @@ end_begins : (text : List ℕ) (sha256 : Option (List ℕ)) (length moment : ℕ
 end_begins text None length moment e = inr (decimal length ++ moment_text moment, e)
 end_begins text (Some sha256) length moment e = inr (encode_lower sha256 ++ length_text length moment, e)
 
-bar_no_space : 124 ≡ 32 → ⊥
+bar_no_space : ◌≡◌ {A = ℕ} 124 32 → ⊥
 bar_no_space e = omega (arith, e)
 
 module _ (second : Bool) where

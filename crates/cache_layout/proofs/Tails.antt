@@ -29,8 +29,8 @@ module _ {sign : ℕ} {First Second Tail : List ℕ → Type 0} (tail : IsTail s
 
   -- no space
   pub no_space : (text : List ℕ) → ((rest : List ℕ) → text ≡ 32 ∷ rest → ⊥) → IsPlace Tail text 0
-  no_space text no = same_place (After 32 (Both First Second)) Tail text 0 tail.into tail.back
-      (not_after 32 (Both First Second) text no some_both.0 some_both.1)
+  no_space text never = same_place (After 32 (Both First Second)) Tail text 0 tail.into tail.back
+      (not_after 32 (Both First Second) text never some_both.0 some_both.1)
 
   at_after : (text after : List ℕ) (n m : ℕ) → text ≡ 32 ∷ after → m ≡ suc n → IsPlace (Both First Second) after n
       → IsPlace Tail text m

@@ -38,19 +38,19 @@ cut sign (x ∷ text) = by (x == sign) refl (cut sign text)
 
 before_whole : (sign : ℕ) (a : List ℕ) → Lacks sign a → before sign a ≡ a
 before_whole sign [] p = refl
-before_whole sign (x ∷ a) (no, p) = rw ne_eqb x sign no (ap (λ t. x ∷ t) (before_whole sign a p))
+before_whole sign (x ∷ a) (never, p) = rw (ne_eqb x sign never) (ap (λ t. x ∷ t) (before_whole sign a p))
 
 behind_none : (sign : ℕ) (a : List ℕ) → Lacks sign a → behind sign a ≡ None
 behind_none sign [] p = refl
-behind_none sign (x ∷ a) (no, p) = rw ne_eqb x sign no (behind_none sign a p)
+behind_none sign (x ∷ a) (never, p) = rw (ne_eqb x sign never) (behind_none sign a p)
 
 before_sign : (sign : ℕ) (a b : List ℕ) → Lacks sign a → before sign (a ++ sign ∷ b) ≡ a
-before_sign sign [] b p = rw eq-eqb sign sign refl refl
-before_sign sign (x ∷ a) b (no, p) = rw ne_eqb x sign no (ap (λ t. x ∷ t) (before_sign sign a b p))
+before_sign sign [] b p = rw (eq-eqb sign sign refl) refl
+before_sign sign (x ∷ a) b (never, p) = rw (ne_eqb x sign never) (ap (λ t. x ∷ t) (before_sign sign a b p))
 
 behind_sign : (sign : ℕ) (a b : List ℕ) → Lacks sign a → behind sign (a ++ sign ∷ b) ≡ Some b
-behind_sign sign [] b p = rw eq-eqb sign sign refl refl
-behind_sign sign (x ∷ a) b (no, p) = rw ne_eqb x sign no (behind_sign sign a b p)
+behind_sign sign [] b p = rw (eq-eqb sign sign refl) refl
+behind_sign sign (x ∷ a) b (never, p) = rw (ne_eqb x sign never) (behind_sign sign a b p)
 
 abbrev pub Holds : (List ℕ → Bool) → List ℕ → Type 0
 Holds f text = f text ≡ true
@@ -84,7 +84,7 @@ module _ (f : List ℕ → Bool) (sign : ℕ) (g : List ℕ → Bool) where
   maybe_begins text (inl none) = inl none
   maybe_begins text (inr after) = inr (after.rest, after.whole)
 
-  back : (text : List ℕ) → Holds (is_with f sign g) text → (parts : Cut sign text)
+  pub back : (text : List ℕ) → Holds (is_with f sign g) text → (parts : Cut sign text)
       → Begins sign parts.rest → Both (Holds f) Maybe text
   back text is parts (inl none) =
       let e : text ≡ parts.first = parts.whole ∙ ap (λ t. parts.first ++ t) none ∙ append-nil parts.first in

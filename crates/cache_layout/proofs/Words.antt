@@ -1,6 +1,6 @@
 -- Texts without a sign, and how far a text is a word, byte by byte.
-use Rattle.std.proofs.Common.{◌≡◌, ◌⊎◌, inl, inr, ℕ, suc, ◌+◌, ◌<◌, ◌≤◌, min, Bool, true, false, not, ◌&&◌, List, [], ◌∷◌, ◌++◌, length, take, drop, get_or, refl, sym, ◌∙◌, ap, subst, arith}
-use Rattle.std.specs.Prelude.{◌==◌}
+use Rattle.std.proofs.Common.{◌≡◌, ◌⊎◌, inl, inr, ℕ, suc, ◌+◌, ◌<◌, ◌≤◌, min, Bool, true, false, not, ◌&&◌, List, [], ◌∷◌, ◌++◌, length, take, drop, get_or, refl, sym, ◌∙◌, ap, subst, arith, Option, Some, None, Bor}
+use Rattle.std.specs.Prelude.{◌==◌, ◌≢◌, IfNone, IfSome, MatchOption}
 use Rattle.std.specs.List.{list_all}
 use Rattle.std.proofs.lemmas.Bool.{and_parts, eq-eqb, ne_eqb, cases_lt}
 use Rattle.std.proofs.lemmas.List.{take_more, drop_more}
@@ -9,23 +9,23 @@ use Rattle.cache_layout.specs.Places.{Lacks, Begins, common}
 
 pub lacks_append : (sign : ℕ) (a b : List ℕ) → Lacks sign a → Lacks sign b → Lacks sign (a ++ b)
 lacks_append sign [] b p q = q
-lacks_append sign (x ∷ a) b (no, p) q = (no, lacks_append sign a b p q)
+lacks_append sign (x ∷ a) b (never, p) q = (never, lacks_append sign a b p q)
 
 -- a class of bytes without the sign
 pub lacks_class : (has : ℕ → Bool) (sign : ℕ) (text : List ℕ) → has sign ≡ false → list_all has text ≡ true
     → Lacks sign text
-lacks_class has sign [] no all = tt
-lacks_class has sign (x ∷ text) no all =
+lacks_class has sign [] never all = tt
+lacks_class has sign (x ∷ text) never all =
     let both = and_parts (has x) (list_all has text) all in
-    (λ e. bad (sym both.0 ∙ ap has e ∙ no), lacks_class has sign text no both.1)
+    (λ e. bad (sym both.0 ∙ ap has e ∙ never), lacks_class has sign text never both.1)
   where
     bad : true ≡ false → ⊥
     bad f = cc
 
 pub lacks_more : (sign : ℕ) (text : List ℕ) (i : ℕ) → i < length text → Lacks sign (take i text)
     → (get_or text i 0 ≡ sign → ⊥) → Lacks sign (take (i + 1) text)
-lacks_more sign text i inside p no = subst (Lacks sign) (sym (take_more text i 0 inside))
-    (lacks_append sign (take i text) (get_or text i 0 ∷ []) p (no, tt))
+lacks_more sign text i inside p never = subst (Lacks sign) (sym (take_more text i 0 inside))
+    (lacks_append sign (take i text) (get_or text i 0 ∷ []) p (never, tt))
 
 pub begins_at : (sign : ℕ) (text : List ℕ) (i : ℕ) → i < length text → get_or text i 0 ≡ sign
     → Begins sign (drop i text)
@@ -33,10 +33,10 @@ begins_at sign text i inside is = inr (drop (i + 1) text, drop_more text i 0 ins
     ∙ ap (λ b. b ∷ drop (i + 1) text) is)
 
 common_same : (b c : ℕ) (word text : List ℕ) → b ≡ c → common (b ∷ word) (c ∷ text) ≡ suc (common word text)
-common_same b c word text e = rw eq-eqb b c e refl
+common_same b c word text e = rw (eq-eqb b c e) refl
 
 common_differ : (b c : ℕ) (word text : List ℕ) → (b ≡ c → ⊥) → common (b ∷ word) (c ∷ text) ≡ 0
-common_differ b c word text no = rw ne_eqb b c no refl
+common_differ b c word text never = rw (ne_eqb b c never) refl
 
 common_nil : (word : List ℕ) → common word [] ≡ 0
 common_nil [] = refl
@@ -51,10 +51,10 @@ common_more word text i p q e =
 
 pub common_stops : (word text : List ℕ) (i : ℕ) → i < length word → i < length text
     → (get_or word i 0 ≡ get_or text i 0 → ⊥) → common (drop i word) (drop i text) ≡ 0
-common_stops word text i p q no =
+common_stops word text i p q never =
     ap (λ w. common w (drop i text)) (drop_more word i 0 p)
     ∙ ap (λ t. common (get_or word i 0 ∷ drop (i + 1) word) t) (drop_more text i 0 q)
-    ∙ common_differ (get_or word i 0) (get_or text i 0) (drop (i + 1) word) (drop (i + 1) text) no
+    ∙ common_differ (get_or word i 0) (get_or text i 0) (drop (i + 1) word) (drop (i + 1) text) never
 
 pub common_ends : (word text : List ℕ) (i : ℕ) → min (length word) (length text) ≤ i
     → common (drop i word) (drop i text) ≡ 0
@@ -64,3 +64,17 @@ common_ends word text i past = by (cases_lt i (length word))
     by (inl inside) = ap (λ t. common (drop i word) t) (drop_of_length-le text (omega (arith, past, inside)))
         ∙ common_nil (drop i word)
     by (inr beyond) = ap (λ w. common w (drop i text)) (drop_of_length-le word beyond)
+
+-- what is found behind a word, or not
+module _ (text word : List ℕ) where
+  pub found_rest : (result : Option (Bor (List ℕ)))
+      → MatchOption result ((rest : List ℕ) → text ≢ word ++ rest) (λ x. text ≡ word ++ x.now)
+      → IfSome result (λ x. text ≡ word ++ x.now)
+  found_rest None h = tt
+  found_rest (Some x) h = h
+
+  pub found_none : (result : Option (Bor (List ℕ)))
+      → MatchOption result ((rest : List ℕ) → text ≢ word ++ rest) (λ x. text ≡ word ++ x.now)
+      → IfNone result ((rest : List ℕ) → text ≢ word ++ rest)
+  found_none None h = h
+  found_none (Some x) h = tt

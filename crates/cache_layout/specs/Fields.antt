@@ -1,5 +1,5 @@
 -- The fields of a line, each by itself and with what follows it.
-use Rattle.std.specs.Prelude.{◌≡◌, ◌⊎◌, ℕ, ◌<◌, ◌≤◌, ◌^◌, Bool, true, false, ◌||◌, List, ◌∷◌, ◌++◌, Option, IfSome, is_some, length, slice_index, take}
+use Rattle.std.specs.Prelude.{◌≡◌, ◌⊎◌, ℕ, ◌+◌, ◌-◌, ◌*◌, ◌<◌, ◌≤◌, ◌^◌, Bool, true, false, ◌||◌, List, ◌∷◌, ◌++◌, Option, IfSome, is_some, length, slice_index, take}
 use Rattle.std.specs.List.{list_all}
 use Rattle.std.specs.Fmt.{decimal}
 use Rattle.hex.specs.Hex.{encode_lower}
@@ -16,6 +16,14 @@ pub record IsNumber (least most : ℕ) (text : List ℕ) (number : ℕ) : Type 0
   pub whole : text ≡ decimal number
   pub low : least ≤ number
   pub high : number ≤ most
+
+-- The number so far goes on by a byte, at the place i, to a number from `least` to `most` without leading zeros.
+pub record GoesOnTo (least most i number byte more : ℕ) : Type 0 where
+  pub digit : is_digit byte ≡ true
+  pub value : more ≡ number * 10 + (byte - 48)
+  pub low : least ≤ more
+  pub high : more ≤ most
+  pub no_zero : 0 < i → 0 < number
 
 abbrev pub IsCheckName : List ℕ → Check → Type 0
 IsCheckName text check = text ≡ check_text check

@@ -4,7 +4,7 @@ ghost use Rattle.fault_place.specs.Place.{IsPlace};
 ghost use Rattle.res_base.specs.Paths.{url_at};
 ghost use Rattle.cache_layout.specs.Addresses.{IsAddress};
 ghost use Rattle.cache_layout.specs.Names.{escaped, escaped_byte, is_data_name, is_name_byte, name_of};
-ghost use Rattle.hex.specs.Hex.{upper_digits};
+ghost use Rattle.hex.specs.Hex.{IsBytes, upper_digits};
 
 use crate::addresses::read_address;
 use crate::errors::NameErr;
@@ -88,9 +88,11 @@ pub fn cache_name(alloc: Global, address: &str, path: &str) -> Result<Text, Name
     Ok(name_of(alloc, url.as_bytes())?)
 }
 
-/// A law, with nothing to run: two URLs of addresses have two names.
+/// A law, with nothing to run: two URLs of files at addresses have two names.
 pub fn names_apart()
-    ensures { (address path other_address other_path : List ℕ) → IsAddress address → IsAddress other_address
+    ensures { (address path other_address other_path : List ℕ)
+        → IsBytes (url_at address path) → IsBytes (url_at other_address other_path)
+        → IsAddress address → IsAddress other_address
         → name_of (url_at address path) ≡ name_of (url_at other_address other_path)
         → url_at address path ≡ url_at other_address other_path }
 {}

@@ -1,8 +1,8 @@
 //! Decimal numbers.
-ghost use Rattle.std.specs.Prelude.{◌≡◌, ◌+◌, ◌*◌, ◌<◌, ◌≤◌, IfErr, IfOk, MatchOption};
+ghost use Rattle.std.specs.Prelude.{◌≡◌, ◌↔◌, ◌+◌, ◌*◌, ◌<◌, ◌≤◌, ℕ, IfErr, IfOk, IsTrue, MatchOption};
 ghost use Rattle.fault_place.specs.Place.{IsPlace};
 ghost use Rattle.fault_place.specs.Reader.{Accepts};
-ghost use Rattle.cache_layout.specs.Fields.{IsNumber};
+ghost use Rattle.cache_layout.specs.Fields.{GoesOnTo, IsNumber};
 
 use ascii_bytes::decimal_digit;
 
@@ -15,6 +15,28 @@ fn with_digit(number: u64, digit: u8, most: u64) -> Option<u64>
     if more <= most { Some(more) } else { None }
 }
 
+/// Whether a digit at this place would stand behind a zero that leads.
+fn is_behind_zero(i: usize, number: u64) -> bool
+    ensures { IsTrue result ↔ ((0 < i) × (number ≡ 0)) }
+{
+    i > 0 && number == 0
+}
+
+/// The number with one more byte, the one at the place `i`, if a number may go on so.
+fn next_number(number: u64, byte: u8, i: usize, least: u64, most: u64) -> Option<u64>
+    ensures { MatchOption result ((more : ℕ) → ¬ GoesOnTo least most i number byte more) (GoesOnTo least most i number byte) }
+{
+    let digit = decimal_digit(byte)?;
+    if is_behind_zero(i, number) {
+        return None;
+    }
+    let more = with_digit(number, digit, most)?;
+    if more < least {
+        return None;
+    }
+    Some(more)
+}
+
 /// Reads a number from `least` to `most` that is written without leading zeros; else the place
 /// where the text leaves that form.
 pub(crate) fn read_number(text: &[u8], least: u64, most: u64) -> Result<u64, usize>
@@ -23,23 +45,15 @@ pub(crate) fn read_number(text: &[u8], least: u64, most: u64) -> Result<u64, usi
     ensures read { IfOk result (IsNumber least most text.now) }
     ensures refused { IfErr result (IsPlace (Accepts (IsNumber least most)) text.now) }
 {
+    if text.is_empty() {
+        return Err(0);
+    }
     let mut number = 0u64;
     for (i, byte) in text.iter().enumerate() {
-        let Some(digit) = decimal_digit(*byte) else {
-            return Err(i);
-        };
-        if i > 0 && number == 0 {
-            return Err(i);
-        }
-        match with_digit(number, digit, most) {
+        match next_number(number, *byte, i, least, most) {
             None => return Err(i),
-            Some(more) => {
-                if more < least {
-                    return Err(i);
-                }
-                number = more;
-            }
+            Some(more) => number = more,
         }
     }
-    if text.is_empty() { Err(0) } else { Ok(number) }
+    Ok(number)
 }

@@ -1,5 +1,5 @@
-use Rattle.std.proofs.Common.{length, subst, arith, inl, inr, refl, drop, ◌≡◌, ◌+◌, ◌∙◌, ap, ◌∷◌}
-use Rattle.std.proofs.lemmas.List.{take_all}
+use Rattle.std.proofs.Common.{length, sym, subst, arith, inl, inr, refl, drop, ◌≡◌, ◌+◌, ◌∙◌, ap, ◌∷◌}
+use Rattle.std.proofs.lemmas.List.{take_all, take_rest}
 use Rattle.cache_layout.specs.Places.{Lacks, Begins}
 use Rattle.cache_layout.proofs.Words.{begins_at, lacks_more}
 use Rattle.cache_layout.proofs.pieces.part.Goals as goal
@@ -11,7 +11,8 @@ loop-i-preserved c = lacks_more c.args.byte c.args.text.now c.loop-i.i c.loop-i-
 pub returns-then-b-byte-clause-before : goal.returns-then-b-byte-clause-before
 returns-then-b-byte-clause-before c = record {
   lacks = c.loop-i.invariant;
-  begins = begins_at c.args.byte c.args.text.now c.loop-i.i c.loop-i-test.true c.if-b-byte.true;
+  begins = subst (Begins c.args.byte) (sym (take_rest c.args.text.now c.loop-i.i))
+      (begins_at c.args.byte c.args.text.now c.loop-i.i c.loop-i-test.true c.if-b-byte.true);
 }
 
 pub returns-clause-before : goal.returns-clause-before
