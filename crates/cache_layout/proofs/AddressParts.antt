@@ -17,7 +17,7 @@ use Rattle.res_base.specs.Plain.{is_at_most_two_dots}
 use Rattle.cache_layout.specs.Addresses.{IsNamed, is_address, is_after_file, is_after_http, is_authority, is_host, is_host_byte, is_named, is_port, is_with}
 use Rattle.cache_layout.specs.Places.{Begins, IsBefore, Lacks, common}
 use Rattle.cache_layout.proofs.Decimals.{all_digits}
-use Rattle.cache_layout.proofs.Literals.{Behind, Either, behind_at, either_left, either_place, either_right, not_behind, same_place}
+use Rattle.cache_layout.proofs.Literals.{Behind, Either, behind_at, differ_at, either_left, either_place, either_right, not_behind, same_place}
 use Rattle.cache_layout.proofs.Parts.{Both}
 use Rattle.cache_layout.proofs.Named.{named_short}
 use Rattle.cache_layout.proofs.Values.{port_number}
@@ -249,7 +249,9 @@ leaves_http text rest n e at =
     let http : IsPlace Http text (7 + n) = subst (λ t. IsPlace Http t (7 + n)) (sym e)
     (behind_at (codes "http://") (Holds is_after_http) rest n at) in
     let file : IsPlace File text 0 = subst (λ t. IsPlace File t 0) (sym e)
-    (not_behind (codes "file:") (Holds is_after_file) (codes "http://" ++ rest) (λ r f. cc) (codes "a") some_file) in
+    (not_behind (codes "file:") (Holds is_after_file) (codes "http://" ++ rest)
+    (λ r f. differ_at 0 104 102 (codes "http://" ++ rest) (codes "file:" ++ r) refl refl (λ e. omega (arith, e)) f)
+    (codes "a") some_file) in
     address_place text (7 + n) (either_left Http File text (7 + n) 0 (omega arith) http file)
 
 pub leaves_file : (text rest : List ℕ) (n : ℕ) → text ≡ codes "file:" ++ rest → IsPlace (Holds is_after_file) rest n
@@ -258,7 +260,9 @@ leaves_file text rest n e at =
     let file : IsPlace File text (5 + n) = subst (λ t. IsPlace File t (5 + n)) (sym e)
     (behind_at (codes "file:") (Holds is_after_file) rest n at) in
     let http : IsPlace Http text 0 = subst (λ t. IsPlace Http t 0) (sym e)
-    (not_behind (codes "http://") (Holds is_after_http) (codes "file:" ++ rest) (λ r f. cc) (codes "a") some_http) in
+    (not_behind (codes "http://") (Holds is_after_http) (codes "file:" ++ rest)
+    (λ r f. differ_at 0 102 104 (codes "file:" ++ rest) (codes "http://" ++ r) refl refl (λ e. omega (arith, e)) f)
+    (codes "a") some_http) in
     address_place text (5 + n) (either_right Http File text 0 (5 + n) (omega arith) http file)
 
 pub leaves_both : (text : List ℕ) → ((rest : List ℕ) → text ≡ codes "http://" ++ rest → ⊥)

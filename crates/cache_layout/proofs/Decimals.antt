@@ -308,3 +308,8 @@ module _ (least most : ℕ) (low : least ≤ 1) (room : 9 ≤ most) (fits : most
       let at_most : number * 10 + (byte - 48) ≤ most = let h = goes.high in let e = goes.value in omega (arith, h, e) in
       subst (λ n. IsNumber least most (take (i + 1) text) n) (sym goes.value)
       (next text i number (byte - 48) inside before is few goes.no_zero at_least at_most)
+
+  pub read_whole : (text : List ℕ) (i number : ℕ) → length text ≤ i → (length text ≡ 0 → ⊥)
+      → Before least most text i number → IsNumber least most text number
+  read_whole text i number end some (inl (none, _)) = absurd (some (omega (arith, end, none)))
+  read_whole text i number end some (inr is) = subst (λ t. IsNumber least most t number) (take_all i text end) is

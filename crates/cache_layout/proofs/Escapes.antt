@@ -11,7 +11,7 @@ use Rattle.res_base.specs.Paths.{url_at}
 use Rattle.cache_layout.specs.Addresses.{IsAddress}
 use Rattle.cache_layout.specs.Names.{escaped, escaped_byte, is_data_name, is_name_byte, name_of}
 use Rattle.cache_layout.proofs.AddressParts.{File, Http, address_parts}
-use Rattle.cache_layout.proofs.Literals.{Behind, Either}
+use Rattle.cache_layout.proofs.Literals.{Behind, Either, differ_at}
 use Rattle.cache_layout.proofs.Parts.{head_same, tail_same}
 
 upper_same : (d e : ℕ) → d < 16 → e < 16 → slice_index upper_digits d ≡ slice_index upper_digits e → d ≡ e
@@ -19,7 +19,7 @@ upper_same d e p q h =
     let first = IsDigits-upper_digits d p in
     let second = IsDigits-upper_digits e q in
     let both : Some d ≡ Some e = sym first ∙ ap hex_digit_value h ∙ second in
-    sym (same_Some d e (sym both))
+    same_Some d e both
 
 -- how a byte is written
 data Written (byte : ℕ) : Type 0 where
@@ -96,7 +96,7 @@ escaped_same (x ∷ xs) (y ∷ ys) p q h =
     ∙ ap (λ t. y ∷ t) (escaped_same xs ys (tail_bytes x xs p) (tail_bytes y ys q) one.rest)
 
 -- the three kinds of URLs, with what follows their beginning
-data Kind (url : List ℕ) : Type 0 where
+pub data Kind (url : List ℕ) : Type 0 where
   http : (rest : List ℕ) → url ≡ codes "http://" ++ rest → name_of url ≡ codes "http/" ++ escaped rest → Kind url
   file : (rest : List ℕ) → url ≡ codes "file:/" ++ rest → name_of url ≡ codes "file/" ++ escaped rest → Kind url
   here : (rest : List ℕ) → url ≡ codes "file:" ++ rest → name_of url ≡ codes "here/" ++ escaped rest → Kind url
@@ -125,13 +125,13 @@ kind_of url rest (inl e) = http rest e (ap name_of e)
 kind_of url rest (inr e) = subst Kind (sym e) (kind_of_file rest)
 
 no_file : {P : Type 0} (a b : List ℕ) → codes "http/" ++ a ≡ codes "file/" ++ b → P
-no_file a b e = cc
+no_file a b e = differ_at 0 104 102 (codes "http/" ++ a) (codes "file/" ++ b) refl refl (λ f. omega (arith, f)) e
 
 no_here : {P : Type 0} (a b : List ℕ) → codes "http/" ++ a ≡ codes "here/" ++ b → P
-no_here a b e = cc
+no_here a b e = differ_at 1 116 101 (codes "http/" ++ a) (codes "here/" ++ b) refl refl (λ f. omega (arith, f)) e
 
 not_here : {P : Type 0} (a b : List ℕ) → codes "file/" ++ a ≡ codes "here/" ++ b → P
-not_here a b e = cc
+not_here a b e = differ_at 0 102 104 (codes "file/" ++ a) (codes "here/" ++ b) refl refl (λ f. omega (arith, f)) e
 
 same_rest : (word scheme a b url other : List ℕ) → IsBytes url → IsBytes other → url ≡ scheme ++ a → other ≡ scheme ++ b
     → word ++ escaped a ≡ word ++ escaped b → url ≡ other

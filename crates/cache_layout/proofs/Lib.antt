@@ -3,7 +3,9 @@ pub mod AddressParts
 pub mod CheckLists
 pub mod Decimals
 pub mod Escapes
+pub mod Heads
 pub mod HexDigests
+pub mod LineLaws
 pub mod Literals
 pub mod Named
 pub mod Parts

@@ -1,6 +1,6 @@
 -- Where a text leaves a word, a sign before a grammar, one of two grammars, and grammars with the same texts.
 use Rattle.std.proofs.Common.{◌≡◌, ◌⊎◌, inl, inr, ℕ, suc, ◌+◌, ◌<◌, ◌≤◌, max, Bool, true, false, cond, List, [], ◌∷◌, ◌++◌, length, take, refl, sym, ◌∙◌, ap, subst, arith, add-one}
-use Rattle.std.specs.Prelude.{◌==◌}
+use Rattle.std.specs.Prelude.{◌==◌, slice_index}
 use Rattle.std.proofs.Math.Seq.{take-append-add}
 use Rattle.std.proofs.lemmas.List.{append_assoc, append_cancel_left, length-append}
 use Rattle.std.proofs.lemmas.Bool.{cases_lt, eqb-true, eqb-false}
@@ -8,6 +8,11 @@ use Rattle.fault_place.specs.Place.{GoesOn, IsPlace}
 use Rattle.fault_place.proofs.Places.{none_above}
 use Rattle.cache_layout.specs.Places.{common}
 use Rattle.cache_layout.proofs.Parts.{head_same, tail_same}
+
+-- texts that differ at a place
+pub differ_at : {P : Type 0} (i b c : ℕ) (text other : List ℕ) → slice_index text i ≡ b → slice_index other i ≡ c
+    → (b ≡ c → ⊥) → text ≡ other → P
+differ_at i b c text other p q never e = absurd (never (sym p ∙ ap (λ t. slice_index t i) e ∙ q))
 
 -- grammars with the same texts have the same places
 pub same_place : (G H : List ℕ → Type 0) (text : List ℕ) (n : ℕ) → ((t : List ℕ) → G t → H t)

@@ -7,7 +7,7 @@ use Rattle.fault_place.specs.Reader.{Accepts}
 use Rattle.ascii_bytes.specs.Classes.{is_digit}
 use Rattle.hex.specs.Hex.{encode_lower}
 use Rattle.res_base.specs.declared.reading.Check.{Check}
-use Rattle.cache_layout.specs.Fields.{AreChecks, IsDigestText, IsDigestsText, IsEndText, IsFieldsText, IsLengthText, IsMomentText, IsNumber, is_small_digit}
+use Rattle.cache_layout.specs.Fields.{AreChecks, IsDigestText, IsDigestsText, IsEndText, IsFieldsText, IsLengthText, IsMomentText, IsNumber, is_small_digit, record_from}
 use Rattle.cache_layout.specs.Lines.{IsDigest, checks_text, digests_text, length_text, moment_text, sha256_text}
 use Rattle.cache_layout.specs.Places.{Begins, Lacks}
 use Rattle.cache_layout.specs.declared.record.Record.{Record}
@@ -57,14 +57,18 @@ joined text rest a b c d p q r s = p ∙ ap (λ t. 32 ∷ t) (q ∙ ap (λ t. t 
 abbrev pub IsLineEnd : List ℕ → Type 0
 IsLineEnd text = text ≡ 10 ∷ []
 
+pub moment_is : (text after a b : List ℕ) (moment : ℕ) → text ≡ 32 ∷ after → after ≡ a ++ b
+    → IsNumber 0 greatest a moment → IsLineEnd b → IsMomentText text moment
+moment_is text after a b moment p q number end = record {
+  whole = joined text after a b (decimal moment) (10 ∷ []) p q number.whole end;
+  small = fits moment number.high;
+}
+
 into_moment : (text : List ℕ) → After 32 (Both Number IsLineEnd) text → Accepts IsMomentText text
 into_moment text after =
     let number = after.is.is_first in
-    (number.0, record {
-      whole = joined text after.rest after.is.first after.is.second (decimal number.0) (10 ∷ []) after.whole
-          after.is.whole number.1.whole after.is.is_second;
-      small = fits number.0 number.1.high;
-    })
+    (number.0, moment_is text after.rest after.is.first after.is.second number.0 after.whole after.is.whole number.1
+    after.is.is_second)
 
 from_moment : (text : List ℕ) → Accepts IsMomentText text → After 32 (Both Number IsLineEnd) text
 from_moment text (moment, is) = record {
@@ -90,17 +94,23 @@ moment_tail = record {
 
 -- a length
 
+abbrev pub times_of : ℕ → ℕ → Times
+times_of len moment = record { length = len; moment = moment }
+
+pub length_is : (text after a b : List ℕ) (len moment : ℕ) → text ≡ 32 ∷ after → after ≡ a ++ b
+    → IsNumber 0 greatest a len → IsMomentText b moment → IsLengthText text (times_of len moment)
+length_is text after a b len moment p q number end = record {
+  whole = joined text after a b (decimal len) (moment_text moment) p q number.whole end.whole;
+  small_length = fits len number.high;
+  small_moment = end.small;
+}
+
 into_length : (text : List ℕ) → After 32 (Both Number (Accepts IsMomentText)) text → Accepts IsLengthText text
 into_length text after =
     let number = after.is.is_first in
     let moment = after.is.is_second in
-    let times : Times = record { length = number.0; moment = moment.0 } in
-    (times, record {
-      whole = joined text after.rest after.is.first after.is.second (decimal number.0) (moment_text moment.0) after.whole
-          after.is.whole number.1.whole moment.1.whole;
-      small_length = fits number.0 number.1.high;
-      small_moment = moment.1.small;
-    })
+    (times_of number.0 moment.0, length_is text after.rest after.is.first after.is.second number.0 moment.0 after.whole
+    after.is.whole number.1 moment.1)
 
 from_length : (text : List ℕ) → Accepts IsLengthText text → After 32 (Both Number (Accepts IsMomentText)) text
 from_length text (times, is) = record {
@@ -129,19 +139,25 @@ length_tail = record {
 
 -- a SHA-256
 
+abbrev pub ends_of : Option (List ℕ) → Times → Ends
+ends_of sha256 times = record { sha256 = sha256; times = times }
+
+pub second_is : (text after a b digest : List ℕ) (times : Times) → text ≡ 32 ∷ after → after ≡ a ++ b
+    → IsDigestText 32 a digest → IsLengthText b times → IsEndText true text (ends_of (Some digest) times)
+second_is text after a b digest times p q is end = record {
+  whole = joined text after a b (encode_lower digest) (length_text times.length times.moment) p q is.whole end.whole;
+  format = refl;
+  sha256 = is.fits;
+  small_length = end.small_length;
+  small_moment = end.small_moment;
+}
+
 into_second : (text : List ℕ) → After 32 (Both (Digest 32) (Accepts IsLengthText)) text → Accepts (IsEndText true) text
 into_second text after =
     let digest = after.is.is_first in
     let times = after.is.is_second in
-    let ends : Ends = record { sha256 = Some digest.0; times = times.0 } in
-    (ends, record {
-      whole = joined text after.rest after.is.first after.is.second (encode_lower digest.0)
-          (length_text times.0.length times.0.moment) after.whole after.is.whole digest.1.whole times.1.whole;
-      format = refl;
-      sha256 = digest.1.fits;
-      small_length = times.1.small_length;
-      small_moment = times.1.small_moment;
-    })
+    (ends_of (Some digest.0) times.0, second_is text after.rest after.is.first after.is.second digest.0 times.0 after.whole
+    after.is.whole digest.1 times.1)
 
 from_second : (text : List ℕ) (sha256 : Option (List ℕ)) (times : Times)
     → IsEndText true text (record { sha256 = sha256; times = times })
@@ -176,16 +192,17 @@ second_tail = record {
 
 -- what follows a SHA-1
 
+pub first_is : (text : List ℕ) (times : Times) → IsLengthText text times → IsEndText false text (ends_of None times)
+first_is text times is = record {
+  whole = is.whole;
+  format = refl;
+  sha256 = tt;
+  small_length = is.small_length;
+  small_moment = is.small_moment;
+}
+
 pub into_first : (text : List ℕ) → Accepts IsLengthText text → Accepts (IsEndText false) text
-into_first text (times, is) =
-    let ends : Ends = record { sha256 = None; times = times } in
-    (ends, record {
-      whole = is.whole;
-      format = refl;
-      sha256 = tt;
-      small_length = is.small_length;
-      small_moment = is.small_moment;
-    })
+into_first text (times, is) = (ends_of None times, first_is text times is)
 
 from_ends_first : (text : List ℕ) (sha256 : Option (List ℕ)) (times : Times)
     → IsEndText false text (record { sha256 = sha256; times = times }) → Accepts IsLengthText text
@@ -208,26 +225,32 @@ end_begins : (text : List ℕ) (sha256 : Option (List ℕ)) (length moment : ℕ
 end_begins text None length moment e = inr (decimal length ++ moment_text moment, e)
 end_begins text (Some sha256) length moment e = inr (encode_lower sha256 ++ length_text length moment, e)
 
+abbrev pub digests_of : List ℕ → Ends → Digests
+digests_of sha1 ends = record { sha1 = sha1; ends = ends }
+
 bar_no_space : ◌≡◌ {A = ℕ} 124 32 → ⊥
 bar_no_space e = omega (arith, e)
 
 module _ (second : Bool) where
+  pub digests_is : (text after a b sha1 : List ℕ) (ends : Ends) → text ≡ 32 ∷ after → after ≡ a ++ b
+      → IsDigestText 20 a sha1 → IsEndText second b ends → IsDigestsText second text (digests_of sha1 ends)
+  digests_is text after a b sha1 ends p q is end = record {
+    whole = joined text after a b (encode_lower sha1)
+        (sha256_text ends.sha256 ends.times.length ends.times.moment) p q is.whole end.whole;
+    format = end.format;
+    sha1 = is.fits;
+    sha256 = end.sha256;
+    small_length = end.small_length;
+    small_moment = end.small_moment;
+  }
+
   into_digests : (text : List ℕ) → After 32 (Both (Digest 20) (Accepts (IsEndText second))) text
       → Accepts (IsDigestsText second) text
   into_digests text after =
       let sha1 = after.is.is_first in
       let ends = after.is.is_second in
-      let digests : Digests = record { sha1 = sha1.0; ends = ends.0 } in
-      (digests, record {
-        whole = joined text after.rest after.is.first after.is.second (encode_lower sha1.0)
-            (sha256_text ends.0.sha256 ends.0.times.length ends.0.times.moment) after.whole after.is.whole
-            sha1.1.whole ends.1.whole;
-        format = ends.1.format;
-        sha1 = sha1.1.fits;
-        sha256 = ends.1.sha256;
-        small_length = ends.1.small_length;
-        small_moment = ends.1.small_moment;
-      })
+      (digests_of sha1.0 ends.0, digests_is text after.rest after.is.first after.is.second sha1.0 ends.0 after.whole
+      after.is.whole sha1.1 ends.1)
 
   from_digests : (text : List ℕ) → Accepts (IsDigestsText second) text
       → After 32 (Both (Digest 20) (Accepts (IsEndText second))) text
@@ -263,28 +286,27 @@ module _ (second : Bool) where
   }
 
   -- the checks and what follows them
+  pub fields_is : (text after a b : List ℕ) (checks : List Check) (digests : Digests) → text ≡ 32 ∷ after
+      → after ≡ a ++ b → AreChecks a checks → IsDigestsText second b digests
+      → IsFieldsText second text (record_from checks digests)
+  fields_is text after a b checks digests p q is end = record {
+    whole = joined text after a b (checks_text checks)
+        (digests_text digests.sha1 digests.ends.sha256 digests.ends.times.length digests.ends.times.moment) p q is
+        end.whole;
+    format = end.format;
+    sha1 = end.sha1;
+    sha256 = end.sha256;
+    small_length = end.small_length;
+    small_moment = end.small_moment;
+  }
+
   into_fields : (text : List ℕ) → After 32 (Both (Accepts AreChecks) (Accepts (IsDigestsText second))) text
       → Accepts (IsFieldsText second) text
   into_fields text after =
       let checks = after.is.is_first in
       let digests = after.is.is_second in
-      let entry : Record = record {
-        checks = checks.0;
-        sha1 = digests.0.sha1;
-        sha256 = digests.0.ends.sha256;
-        length = digests.0.ends.times.length;
-        moment = digests.0.ends.times.moment;
-      } in
-      (entry, record {
-        whole = joined text after.rest after.is.first after.is.second (checks_text checks.0)
-            (digests_text digests.0.sha1 digests.0.ends.sha256 digests.0.ends.times.length digests.0.ends.times.moment)
-            after.whole after.is.whole checks.1 digests.1.whole;
-        format = digests.1.format;
-        sha1 = digests.1.sha1;
-        sha256 = digests.1.sha256;
-        small_length = digests.1.small_length;
-        small_moment = digests.1.small_moment;
-      })
+      (record_from checks.0 digests.0, fields_is text after.rest after.is.first after.is.second checks.0 digests.0
+      after.whole after.is.whole checks.1 digests.1)
 
   from_fields : (text : List ℕ) → Accepts (IsFieldsText second) text
       → After 32 (Both (Accepts AreChecks) (Accepts (IsDigestsText second))) text

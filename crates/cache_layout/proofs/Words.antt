@@ -1,10 +1,12 @@
 -- Texts without a sign, and how far a text is a word, byte by byte.
 use Rattle.std.proofs.Common.{◌≡◌, ◌⊎◌, inl, inr, ℕ, suc, ◌+◌, ◌<◌, ◌≤◌, min, Bool, true, false, not, ◌&&◌, List, [], ◌∷◌, ◌++◌, length, take, drop, get_or, refl, sym, ◌∙◌, ap, subst, arith, Option, Some, None, Bor}
-use Rattle.std.specs.Prelude.{◌==◌, ◌≢◌, IfNone, IfSome, MatchOption}
+use Rattle.std.specs.Prelude.{◌==◌, nat_le, ◌≢◌, IfNone, IfSome, MatchOption}
 use Rattle.std.specs.List.{list_all}
-use Rattle.std.proofs.lemmas.Bool.{and_parts, eq-eqb, ne_eqb, cases_lt}
+use Rattle.std.proofs.lemmas.Bool.{and_parts, and_right, eq-eqb, lt-leb, ne_eqb, cases_lt}
 use Rattle.std.proofs.lemmas.List.{take_more, drop_more}
 use Rattle.std.proofs.Math.ListN.{drop_of_length-le}
+use Rattle.ascii_bytes.specs.Classes.{between}
+use Rattle.cache_layout.specs.Names.{is_name_byte}
 use Rattle.cache_layout.specs.Places.{Lacks, Begins, common}
 
 pub lacks_append : (sign : ℕ) (a b : List ℕ) → Lacks sign a → Lacks sign b → Lacks sign (a ++ b)
@@ -78,3 +80,22 @@ module _ (text word : List ℕ) where
       → IfNone result ((rest : List ℕ) → text ≢ word ++ rest)
   found_none None h = h
   found_none (Some x) h = tt
+
+-- bytes of names are ASCII
+
+between_past : (low high byte : ℕ) → high < byte → between low high byte ≡ false
+between_past low high byte h = and_right (nat_le low byte) (nat_le byte high) (lt-leb byte high h)
+
+name_byte_past : (byte : ℕ) → 127 < byte → is_name_byte byte ≡ false
+name_byte_past byte h =
+    rw (between_past 65 90 byte (omega (arith, h)), between_past 97 122 byte (omega (arith, h)),
+        between_past 48 57 byte (omega (arith, h)), ne_eqb byte 95 (λ e. absurd (omega (arith, e, h))),
+        ne_eqb byte 45 (λ e. absurd (omega (arith, e, h))), ne_eqb byte 46 (λ e. absurd (omega (arith, e, h))),
+        ne_eqb byte 43 (λ e. absurd (omega (arith, e, h))), ne_eqb byte 47 (λ e. absurd (omega (arith, e, h)))) refl
+
+pub name_byte_small : (byte : ℕ) → is_name_byte byte ≡ true → byte < 128
+name_byte_small byte is = by (cases_lt byte 128)
+  where
+    by : ((byte < 128) ⊎ (128 ≤ byte)) → byte < 128
+    by (inl below) = below
+    by (inr past) = let other = name_byte_past byte (omega (arith, past)) in cc

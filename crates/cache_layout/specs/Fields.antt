@@ -56,6 +56,16 @@ pub record IsLengthText (text : List ℕ) (times : Times) : Type 0 where
   pub small_length : times.length < 2 ^ 64
   pub small_moment : times.moment < 2 ^ 64
 
+-- the record of these fields
+abbrev pub record_from : List Check → Digests → Record
+record_from checks digests = record {
+  checks = checks;
+  sha1 = digests.sha1;
+  sha256 = digests.ends.sha256;
+  length = digests.ends.times.length;
+  moment = digests.ends.times.moment;
+}
+
 -- of format 2, or of format 1
 pub record IsEndText (second : Bool) (text : List ℕ) (ends : Ends) : Type 0 where
   pub whole : text ≡ sha256_text ends.sha256 ends.times.length ends.times.moment

@@ -99,7 +99,7 @@ fn read_file_path(text: &[u8]) -> Result<(), usize>
     ensures refused { IfErr result (IsPlace IsFilePath text.now) }
 {
     let mut at = 0;
-    loop {
+    'parts: loop {
         let (segment, rest) = part(&text[at..], b'/');
         if let Err(place) = read_named::<SegmentByte>(segment) {
             return Err(at + place);

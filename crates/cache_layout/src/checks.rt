@@ -70,7 +70,7 @@ pub(crate) fn read_checks(alloc: Global, names: &[u8]) -> Result<List<Check>, Re
         return Ok(checks);
     }
     let mut at = 0;
-    loop {
+    'parts: loop {
         let (name, rest) = part(&names[at..], b'|');
         let check = match read_check(name) {
             Ok(check) => check,

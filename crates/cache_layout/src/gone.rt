@@ -1,5 +1,5 @@
 //! Lines of absence records.
-ghost use Rattle.std.specs.Prelude.{◌≡◌, ◌∷◌, ◌++◌, ◌<◌, ◌^◌, Some, None, codes, IfErr, IfOk, IsErrOf, ℕ};
+ghost use Rattle.std.specs.Prelude.{◌≡◌, ◌↔◌, Some, None, IfErr, IfOk, List, ℕ};
 ghost use Rattle.fault_place.specs.Place.{IsPlace};
 ghost use Rattle.fault_place.specs.Reader.{Accepts};
 ghost use Rattle.cache_layout.specs.Fields.{IsMomentText};
@@ -55,3 +55,9 @@ pub fn read_gone(bytes: &[u8]) -> Result<u64, BadLine>
         },
     }
 }
+
+/// A law, with nothing to run: a text is the line of an absence record exactly where it reads as
+/// that.
+pub fn gone_lines_read()
+    ensures { (text : List ℕ) (moment : ℕ) → (gone_in text ≡ Some moment) ↔ IsGoneLine text moment }
+{}

@@ -18,7 +18,7 @@ mod record_lines;
 mod tests;
 
 pub use errors::{BadLine, NameErr, RecordErr};
-pub use gone::{gone_line, read_gone};
+pub use gone::{gone_line, gone_lines_read, read_gone};
 pub use names::{cache_name, names_apart};
 pub use record::{Found, Measured, Record};
-pub use record_lines::{read_record, record_line};
+pub use record_lines::{read_record, record_line, record_lines_read};

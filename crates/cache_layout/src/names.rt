@@ -1,5 +1,5 @@
 //! The names of files in the cache.
-ghost use Rattle.std.specs.Prelude.{◌≡◌, ◌++◌, ◌<◌, ℕ, List, codes, true, IfOk, OnOk, IsErrOf, slice_index, string_bytes};
+ghost use Rattle.std.specs.Prelude.{◌≡◌, [], ◌∷◌, ◌++◌, ◌<◌, ℕ, List, codes, true, IfOk, OnOk, IsErrOf, slice_index, string_bytes};
 ghost use Rattle.fault_place.specs.Place.{IsPlace};
 ghost use Rattle.res_base.specs.Paths.{url_at};
 ghost use Rattle.cache_layout.specs.Addresses.{IsAddress};
@@ -21,9 +21,19 @@ fn is_name_byte(byte: u8) -> bool
 /// A hexadecimal digit with a capital letter.
 fn upper_digit(value: u8) -> u8
     requires { value < 16 }
-    ensures { result ≡ slice_index upper_digits value }
+    ensures digit { result ≡ slice_index upper_digits value }
+    ensures small { result < 128 }
 {
     b"0123456789ABCDEF"[value as usize]
+}
+
+/// Puts a byte of ASCII at the end of a name.
+fn push_byte(name: &mut String, byte: u8) -> Result<(), NoMemory>
+    requires { byte < 128 }
+    ensures { OnOk result (string_bytes name.new ≡ string_bytes name.old ++ byte ∷ []) }
+{
+    name.push(char::from(byte))?;
+    Ok(())
 }
 
 /// Puts a byte at the end of a name: as it is, or as `%` and two hexadecimal digits.
@@ -31,13 +41,11 @@ fn push_escaped(name: &mut String, byte: u8) -> Result<(), NoMemory>
     ensures { OnOk result (string_bytes name.new ≡ string_bytes name.old ++ escaped_byte byte) }
 {
     if is_name_byte(byte) {
-        name.push(char::from(byte))?;
-        return Ok(());
+        return push_byte(name, byte);
     }
-    name.push('%')?;
-    name.push(char::from(upper_digit(byte / 16)))?;
-    name.push(char::from(upper_digit(byte % 16)))?;
-    Ok(())
+    push_byte(name, b'%')?;
+    push_byte(name, upper_digit(byte / 16))?;
+    push_byte(name, upper_digit(byte % 16))
 }
 
 /// Puts a text at the end of a name.

@@ -1,8 +1,9 @@
 //! Lines of records.
-ghost use Rattle.std.specs.Prelude.{◌≡◌, ◌+◌, ◌<◌, Some, None, IfErr, IfOk, IsErrOf, ℕ, true};
+ghost use Rattle.std.specs.Prelude.{◌≡◌, ◌↔◌, ◌+◌, ◌<◌, Some, None, IfErr, IfOk, IsErrOf, List, ℕ, true};
+ghost use Rattle.cache_layout.specs.declared.record.Record.{Record};
 ghost use Rattle.fault_place.specs.Place.{IsPlace};
 ghost use Rattle.fault_place.specs.Reader.{Accepts};
-ghost use Rattle.cache_layout.specs.Fields.{IsDigestsText, IsEndText, IsFieldsText, IsLengthText};
+ghost use Rattle.cache_layout.specs.Fields.{IsDigestsText, IsEndText, IsFieldsText, IsLengthText, record_from};
 ghost use Rattle.cache_layout.specs.Lines.{IsRecordLine};
 ghost use Rattle.cache_layout.specs.Readings.{record_in};
 
@@ -134,9 +135,7 @@ fn read_digests(text: &[u8], second: bool) -> Result<Digests, usize>
 }
 
 fn record_of(checks: List<Check>, digests: Digests) -> Record
-    ensures checks { result.checks ≡ checks }
-    ensures digests { (result.sha1 ≡ digests.sha1) × (result.sha256 ≡ digests.ends.sha256) }
-    ensures times { (result.length ≡ digests.ends.times.length) × (result.moment ≡ digests.ends.times.moment) }
+    ensures { result ≡ record_from checks digests }
 {
     let Digests { sha1, ends } = digests;
     let Ends { sha256, times } = ends;
@@ -203,3 +202,9 @@ pub fn read_record(alloc: Global, bytes: &[u8]) -> Result<Record, RecordErr>
         common(first, bytes).max(common(second, bytes)),
     ))
 }
+
+/// A law, with nothing to run: a text is the line of a record exactly where it reads as that, so
+/// each line has one reading, and what is written is read back.
+pub fn record_lines_read()
+    ensures { (text : List ℕ) (entry : Record) → (record_in text ≡ Some entry) ↔ IsRecordLine text entry }
+{}

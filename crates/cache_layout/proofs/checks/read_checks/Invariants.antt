@@ -2,8 +2,8 @@ use Rattle.std.proofs.Common.{length, ◌-◌}
 use Rattle.cache_layout.proofs.CheckLists.{IsSoFar}
 use Rattle.cache_layout.proofs.checks.read_checks.Given as goal
 
-abbrev pub invariant-loop-checks : goal.invariant-loop-checks
-invariant-loop-checks l = IsSoFar l.names l.at l.checks
+abbrev pub invariant-parts : goal.invariant-parts
+invariant-parts l = IsSoFar l.names l.at l.checks
 
-abbrev pub decreases-loop-checks : goal.decreases-loop-checks
-decreases-loop-checks l = length l.names - l.at
+abbrev pub decreases-parts : goal.decreases-parts
+decreases-parts l = length l.names - l.at
