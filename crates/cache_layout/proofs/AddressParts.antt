@@ -1,6 +1,6 @@
 -- Addresses and their parts.
 use Rattle.std.proofs.Common.{◌≡◌, ◌⊎◌, inl, inr, ℕ, suc, ◌+◌, ◌<◌, ◌≤◌, max, Bool, true, false, cond, not, ◌&&◌, List, [], ◌∷◌, ◌++◌, length, drop, refl, sym, ◌∙◌, ap, subst, arith}
-use Rattle.std.specs.Prelude.{codes, nat_eq}
+use Rattle.std.specs.Prelude.{Err, IfErr, Ok, OnOk, Result, codes, nat_eq}
 use Rattle.std.specs.Fmt.{decimal}
 use Rattle.std.specs.List.{All, list_all, slice_split, starts_with}
 use Rattle.std.proofs.Math.Seq.{drop-append-add}
@@ -49,6 +49,7 @@ authority_lacks text is = by (back is_host 58 is_port text is (cut 58 text) (cut
     second : (t : List ℕ) → Maybe is_host 58 is_port t → Lacks 47 t
     second t (inl none) = subst (Lacks 47) (sym none) tt
     second t (inr after) = subst (Lacks 47) (sym after.whole) (no_colon, port_lacks 47 refl after.rest after.is)
+
     by : Both (Holds is_host) (Maybe is_host 58 is_port) text → Lacks 47 text
     by both = subst (Lacks 47) (sym both.whole) (lacks_append 47 both.first both.second
         (host_lacks 47 refl both.first both.is_first) (second both.second both.is_second))
@@ -209,6 +210,16 @@ leaves_unrooted text n never at = after_file_place text n
         by true e = absurd (f t (ap (λ y. y ∷ t) (sym (eqb-true 47 x e))))
         by false e = omega arith
 
+pub unrooted_err : {A : Type 0} (text : List ℕ) → ((rest : List ℕ) → text ≡ codes "/" ++ rest → ⊥) → (r : Result A ℕ)
+    → IfErr r (IsPlace (Holds is_file_path) text) → IfErr r (IsPlace (Holds is_after_file) text)
+unrooted_err text never (Ok x) h = tt
+unrooted_err text never (Err n) h = leaves_unrooted text n never h
+
+pub unrooted_ok : {A : Type 0} (text : List ℕ) (r : Result A ℕ) → OnOk r (is_file_path text ≡ true)
+    → OnOk r (is_after_file text ≡ true)
+unrooted_ok text (Ok x) h = file_path_is text h
+unrooted_ok text (Err n) h = tt
+
 -- an address
 
 abbrev pub Http : List ℕ → Type 0
@@ -231,6 +242,13 @@ address_parts text is = address_from text (starts_with nat_eq text (codes "http:
 pub address_into : (text : List ℕ) → Either Http File text → is_address text ≡ true
 address_into text (inl http) = ap is_address http.whole ∙ http.is
 address_into text (inr file) = ap is_address file.whole ∙ file.is
+
+pub http_is : (text rest : List ℕ) → text ≡ codes "http://" ++ rest → is_after_http rest ≡ true
+    → is_address text ≡ true
+http_is text rest e is = ap is_address e ∙ is
+
+pub file_is : (text rest : List ℕ) → text ≡ codes "file:" ++ rest → is_after_file rest ≡ true → is_address text ≡ true
+file_is text rest e is = ap is_address e ∙ is
 
 address_place : (text : List ℕ) (n : ℕ) → IsPlace (Either Http File) text n → IsPlace (Holds is_address) text n
 address_place text n at = same_place (Either Http File) (Holds is_address) text n address_into

@@ -8,7 +8,7 @@ use Rattle.fault_place.specs.Reader.{Accepts}
 use Rattle.ascii_bytes.specs.Classes.{is_letter_or_digit}
 use Rattle.res_base.specs.declared.reading.Check.{Check}
 use Rattle.res_base.specs.declared.reading.Check.TheVariants.{Sha1, Md5, Sha256, NoCheck}
-use Rattle.cache_layout.specs.Fields.{AreChecks, IsCheckName}
+use Rattle.cache_layout.specs.Fields.{AreChecks, IsCheckName, with_bar}
 use Rattle.cache_layout.specs.Lines.{check_text, checks_text}
 use Rattle.cache_layout.specs.Places.{Begins, IsBefore, Lacks, common}
 use Rattle.cache_layout.proofs.Literals.{After, Either, after_at, either_place, either_right, literal, same_place}
@@ -66,6 +66,7 @@ no_name name sha1 md5 sha256 none = same_place Four (Accepts IsCheckName) name
     into t (inl (inr e)) = (Md5, e)
     into t (inr (inl e)) = (Sha256, e)
     into t (inr (inr e)) = (NoCheck, e)
+
     back : (t : List ℕ) → Accepts IsCheckName t → Four t
     back t (Sha1, e) = inl (inl e)
     back t (Md5, e) = inl (inr e)
@@ -158,9 +159,11 @@ leaves_all text n some at = same_place (Either IsEmpty AreSome) (Accepts AreChec
     into : (t : List ℕ) → Either IsEmpty AreSome t → Accepts AreChecks t
     into t (inl none) = ([], none)
     into t (inr one) = (one.first ∷ one.others, one.whole)
+
     back : (t : List ℕ) → Accepts AreChecks t → Either IsEmpty AreSome t
     back t ([], e) = inl e
     back t (c ∷ checks, e) = inr (record { first = c; others = checks; whole = e })
+
     nothing : (t : List ℕ) → (t ≡ [] → ⊥) → IsPlace IsEmpty t 0
     nothing [] never = absurd (never refl)
     nothing (x ∷ t) never = no_nothing x t
@@ -221,3 +224,46 @@ pub so_far_bad : (names name rest : List ℕ) (at n : ℕ) (checks : List Check)
     → IsPlace (Accepts AreChecks) names (at + n)
 so_far_bad names name rest at n checks so_far whole before leaves =
     so_far.leaves n (leaves_name (drop at names) name rest n whole before leaves)
+
+-- one more name behind others
+
+with_bar_some : (names : List ℕ) → 0 < length names → with_bar names ≡ names ++ 124 ∷ []
+with_bar_some [] some = absurd (omega (arith, some))
+with_bar_some (x ∷ names) some = refl
+
+name_some : (check : Check) → 0 < length (check_text check)
+name_some Sha1 = omega arith
+name_some Md5 = omega arith
+name_some Sha256 = omega arith
+name_some NoCheck = omega arith
+
+pub checks_some : (check : Check) (checks : List Check) → 0 < length (checks_text (check ∷ checks))
+checks_some check [] = name_some check
+checks_some check (next ∷ checks) =
+    let some = name_some check in
+    let e = length-append (check_text check) (124 ∷ checks_text (next ∷ checks)) in
+    omega (arith, some, e)
+
+barred : (a b c : List ℕ) → (a ++ 124 ∷ b) ++ 124 ∷ c ≡ a ++ 124 ∷ (b ++ 124 ∷ c)
+barred a b c = append_assoc a (124 ∷ b) (124 ∷ c)
+
+one_behind : (check : Check) (checks : List Check) (last : Check)
+    → checks_text ((check ∷ checks) ++ last ∷ []) ≡ checks_text (check ∷ checks) ++ 124 ∷ check_text last
+one_behind check [] last = refl
+one_behind check (next ∷ checks) last = ap (λ t. check_text check ++ 124 ∷ t) (one_behind next checks last)
+    ∙ sym (barred (check_text check) (checks_text (next ∷ checks)) (check_text last))
+
+pub name_behind : (checks : List Check) (last : Check)
+    → checks_text (checks ++ last ∷ []) ≡ with_bar (checks_text checks) ++ check_text last
+name_behind [] last = refl
+name_behind (check ∷ checks) last = one_behind check checks last
+    ∙ sym (append_assoc (checks_text (check ∷ checks)) (124 ∷ []) (check_text last))
+    ∙ ap (λ t. t ++ check_text last) (sym (with_bar_some (checks_text (check ∷ checks)) (checks_some check checks)))
+
+-- a text that is none of the four names is the name of no check
+pub no_check : (name : List ℕ) → (name ≡ check_text Sha1 → ⊥) → (name ≡ check_text Md5 → ⊥)
+    → (name ≡ check_text Sha256 → ⊥) → (name ≡ check_text NoCheck → ⊥) → (check : Check) → name ≡ check_text check → ⊥
+no_check name sha1 md5 sha256 none Sha1 e = sha1 e
+no_check name sha1 md5 sha256 none Md5 e = md5 e
+no_check name sha1 md5 sha256 none Sha256 e = sha256 e
+no_check name sha1 md5 sha256 none NoCheck e = none e

@@ -140,12 +140,15 @@ fronts_of_more number digits many small is fronts text rest e some (ends front l
 front_of : (number : ℕ) → number < 2 ^ 64 → (text rest : List ℕ) → decimal number ≡ text ++ rest → 0 < length text
     → IsFront number text
 front_of number small = (decimal_by_steps HasFronts
-    (λ n few _. (sym (decimal_digit n few), λ text rest e some. record {
-      value = n;
-      whole = only_byte (48 + n) text rest e some ∙ sym (decimal_digit n few);
-      high = omega arith;
-      positive = λ h. h;
-    }))
+    (λ n few _. (
+      sym (decimal_digit n few),
+      λ text rest e some. record {
+        value = n;
+        whole = only_byte (48 + n) text rest e some ∙ sym (decimal_digit n few);
+        high = omega arith;
+        positive = λ h. h;
+      },
+    ))
     (λ n digits many front bound.
     let before = front (omega (arith, bound)) in (
       ap (λ t. t ++ (48 + n % 10) ∷ []) before.0 ∙ sym (decimal_step n many bound),
@@ -163,19 +166,20 @@ abbrev pub Number : ℕ → ℕ → List ℕ → Type 0
 Number least most = Accepts (IsNumber least most)
 
 module _ (least most : ℕ) (low : least ≤ 1) (room : 9 ≤ most) (fits : most < 2 ^ 64) where
-
   pub some_number : (text : List ℕ) × Number least most text
   some_number = (decimal 1, (1, record { whole = refl; low = low; high = omega (arith, room) }))
 
   number_front : (text rest : List ℕ) → Number least most (text ++ rest) → 0 < length text → Number least most text
   number_front text rest (value, is) some =
       let small : value < 2 ^ 64 = let h = is.high in omega (arith, h, fits) in
-      let front = front_of value small text rest (sym is.whole) some in
-      (front.value, record {
-        whole = front.whole;
-        low = at_least (cases_lt least 1) is.low front.positive;
-        high = let h = is.high in let g = front.high in omega (arith, h, g);
-      })
+      let front = front_of value small text rest (sym is.whole) some in (
+        front.value,
+        record {
+          whole = front.whole;
+          low = at_least (cases_lt least 1) is.low front.positive;
+          high = let h = is.high in let g = front.high in omega (arith, h, g);
+        },
+      )
     where
       at_least : {n v : ℕ} → ((least < 1) ⊎ (1 ≤ least)) → least ≤ n → (1 ≤ n → 1 ≤ v) → least ≤ v
       at_least (inl none) h positive = omega (arith, none)
@@ -184,8 +188,14 @@ module _ (least most : ℕ) (low : least ≤ 1) (room : 9 ≤ most) (fits : most
   goes_before : (text : List ℕ) (i number : ℕ) → Before least most text i number → GoesOn (Number least most) (take i text)
   goes_before text i number (inl (none, _)) =
       let P : ℕ → Type 0 = λ k. GoesOn (Number least most) (take k text) in subst P (sym none) some_number
-  goes_before text i number (inr is) = ([], (number, subst (λ t. IsNumber least most t number)
-      (sym (append-nil (take i text))) is))
+  goes_before text i number (inr is) = (
+    [],
+    (
+      number,
+      subst (λ t. IsNumber least most t number)
+          (sym (append-nil (take i text))) is,
+    ),
+  )
 
   -- a byte after which no number begins
   pub number_stops : (text : List ℕ) (i number : ℕ) → i < length text → Before least most text i number
@@ -233,9 +243,11 @@ module _ (least most : ℕ) (low : least ≤ 1) (room : 9 ≤ most) (fits : most
       let e : byte ∷ [] ≡ decimal value = sym (ap (λ k. take k text ++ byte ∷ []) none)
       ∙ sym (take_more text i 0 inside) ∙ is.whole in
       let one = single byte value small e in
-      let same : number * 10 + value ≡ value = omega (arith, nought) in
-      (number * 10 + value, next_of i number byte value one.1 one.0 (let h = is.low in omega (arith, h, same))
-      (let h = is.high in omega (arith, h, same)) (λ some. absurd (omega (arith, some, none))))
+      let same : number * 10 + value ≡ value = omega (arith, nought) in (
+        number * 10 + value,
+        next_of i number byte value one.1 one.0 (let h = is.low in omega (arith, h, same))
+            (let h = is.high in omega (arith, h, same)) (λ some. absurd (omega (arith, some, none))),
+      )
   next_is text i number inside (inr before) (value, is) =
       let small : value < 2 ^ 64 = let h = is.high in omega (arith, h, fits) in
       let number_small : number < 2 ^ 64 = let h = before.high in omega (arith, h, fits) in
@@ -245,10 +257,12 @@ module _ (least most : ℕ) (low : least ≤ 1) (room : 9 ≤ most) (fits : most
       let parts = several number byte value number_small small e in
       let many = parts.0 in
       let tens = parts.1 in
-      let same : number * 10 + value % 10 ≡ value = omega (arith, tens) in
-      (number * 10 + value % 10, next_of i number byte (value % 10) parts.2 (rest_is_small value)
-      (let h = is.low in omega (arith, h, same)) (let h = is.high in omega (arith, h, same))
-      (λ _. omega (arith, many, tens)))
+      let same : number * 10 + value % 10 ≡ value = omega (arith, tens) in (
+        number * 10 + value % 10,
+        next_of i number byte (value % 10) parts.2 (rest_is_small value)
+            (let h = is.low in omega (arith, h, same)) (let h = is.high in omega (arith, h, same))
+            (λ _. omega (arith, many, tens)),
+      )
 
   -- a byte with which no number goes on
   pub stops_at_byte : (text : List ℕ) (i number : ℕ) → i < length text → Before least most text i number

@@ -1,9 +1,10 @@
 -- Two URLs have two names.
-use Rattle.std.proofs.Common.{◌≡◌, ◌⊎◌, inl, inr, ℕ, suc, ◌+◌, ◌*◌, ◌/◌, ◌%◌, ◌<◌, Bool, true, false, cond, List, [], ◌∷◌, ◌++◌, length, drop, Option, Some, None, refl, sym, ◌∙◌, ap, subst, arith}
+use Rattle.std.proofs.Common.{◌≡◌, ◌⊎◌, inl, inr, ℕ, suc, ◌+◌, ◌*◌, ◌/◌, ◌%◌, ◌<◌, Bool, true, false, cond, List, [], ◌∷◌, ◌++◌, length, drop, get_or, take, Option, Some, None, refl, sym, ◌∙◌, ap, subst, arith}
 use Rattle.std.specs.Prelude.{codes, nat_eq, slice_index}
 use Rattle.std.specs.List.{flat_map, starts_with}
 use Rattle.std.proofs.lemmas.Bool.{eqb-true}
-use Rattle.std.proofs.lemmas.List.{append_assoc, append_cancel_left}
+use Rattle.std.proofs.lemmas.Grind.{flat_map-append}
+use Rattle.std.proofs.lemmas.List.{append-nil, append_assoc, append_cancel_left, take_more}
 use Rattle.std.proofs.lemmas.Option.{same_Some}
 use Rattle.hex.specs.Hex.{IsBytes, hex_digit_value, upper_digits}
 use Rattle.hex.proofs.HexLemmas.{IsDigits-upper_digits}
@@ -159,10 +160,10 @@ pub address_kind : (address path : List ℕ) → IsAddress address → Kind (url
 address_kind address path is = by (address_parts address is)
   where
     by : Either Http File address → Kind (url_at address path)
-    by (inl http) = kind_of (url_at address path) (http.rest ++ 47 ∷ path)
-        (inl (ap (λ t. t ++ 47 ∷ path) http.whole ∙ append_assoc (codes "http://") http.rest (47 ∷ path)))
-    by (inr file) = kind_of (url_at address path) (file.rest ++ 47 ∷ path)
-        (inr (ap (λ t. t ++ 47 ∷ path) file.whole ∙ append_assoc (codes "file:") file.rest (47 ∷ path)))
+    by (inl web) = kind_of (url_at address path) (web.rest ++ 47 ∷ path)
+        (inl (ap (λ t. t ++ 47 ∷ path) web.whole ∙ append_assoc (codes "http://") web.rest (47 ∷ path)))
+    by (inr folder) = kind_of (url_at address path) (folder.rest ++ 47 ∷ path)
+        (inr (ap (λ t. t ++ 47 ∷ path) folder.whole ∙ append_assoc (codes "file:") folder.rest (47 ∷ path)))
 
 pub apart : (address path other_address other_path : List ℕ) → IsBytes (url_at address path)
     → IsBytes (url_at other_address other_path) → IsAddress address → IsAddress other_address
@@ -180,3 +181,10 @@ names_data url = by (starts_with nat_eq url (codes "http://")) (starts_with nat_
     by true c = refl
     by false true = refl
     by false false = refl
+
+-- one more byte
+pub escaped_more : (text : List ℕ) (i : ℕ) → i < length text
+    → escaped (take (i + 1) text) ≡ escaped (take i text) ++ escaped_byte (get_or text i 0)
+escaped_more text i inside = ap escaped (take_more text i 0 inside)
+    ∙ flat_map-append escaped_byte (take i text) (get_or text i 0 ∷ [])
+    ∙ ap (λ t. escaped (take i text) ++ t) (append-nil (escaped_byte (get_or text i 0)))

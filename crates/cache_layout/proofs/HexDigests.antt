@@ -1,14 +1,14 @@
 -- Digests in hexadecimal digits with small letters.
 use Rattle.std.proofs.Common.{◌≡◌, ◌⊎◌, inl, inr, ℕ, zero, suc, ◌+◌, ◌-◌, ◌*◌, ◌/◌, ◌%◌, ◌<◌, ◌≤◌, Bool, true, false, cond, not, ◌&&◌, ◌||◌, List, [], ◌∷◌, ◌++◌, length, take, drop, get_or, refl, sym, ◌∙◌, ap, subst, arith}
-use Rattle.std.specs.Prelude.{◌==◌, nat_le, slice_index}
+use Rattle.std.specs.Prelude.{◌==◌, Ok, nat_le, slice_index}
 use Rattle.std.specs.List.{list_all}
-use Rattle.std.proofs.lemmas.Bool.{and_parts, and_from, cases_lt, eqb-true, leb-true, lt-leb}
-use Rattle.std.proofs.lemmas.List.{take-append-drop, length-append, length-take-le, take_all}
+use Rattle.std.proofs.lemmas.Bool.{and_parts, and_from, cases_lt, eq-eqb, eqb-true, leb-true, lt-leb, ne_eqb}
+use Rattle.std.proofs.lemmas.List.{take-append-drop, length-append, length-take-le, take_all, take_more}
 use Rattle.std.proofs.lemmas.List.Folds.{list_all-append}
 use Rattle.fault_place.specs.Place.{GoesOn, IsPlace}
 use Rattle.fault_place.specs.Reader.{Accepts}
-use Rattle.hex.specs.Hex.{IsBytes, encode_lower, encode_with, lower_digits}
-use Rattle.hex.proofs.HexLemmas.{length-encode_with}
+use Rattle.hex.specs.Hex.{IsBytes, decode_pairs, decode_sized, encode_lower, encode_with, lower_digits}
+use Rattle.hex.proofs.HexLemmas.{IsDigits-lower_digits, decode_pairs-encode_with, length-encode_with}
 use Rattle.cache_layout.specs.Fields.{IsDigestText, StopsDigits, is_small_digit}
 use Rattle.cache_layout.proofs.Literals.{same_place}
 use Rattle.cache_layout.proofs.Named.{not_all}
@@ -45,6 +45,7 @@ small_digit_ends byte h = by (cases_lt byte 103)
   where
     none : (n m : ℕ) → m < n → nat_le n m ≡ false
     none n m less = lt-leb n m less
+
     by : ((byte < 103) ⊎ (103 ≤ byte)) → byte < 103
     by (inl below) = below
     by (inr past) =
@@ -152,9 +153,10 @@ abbrev pub AreDigits : ℕ → List ℕ → Type 0
 AreDigits digits text = (list_all is_small_digit text ≡ true) × (length text ≡ digits)
 
 pub digits_are : (size : ℕ) (text : List ℕ) → Accepts (IsDigestText size) text → AreDigits (2 * size) text
-digits_are size text (digest, is) =
-    (ap (list_all is_small_digit) is.whole ∙ encoded_digits digest is.fits.1,
-    ap (λ t. length t) is.whole ∙ length-encode_with lower_digits digest ∙ ap (λ n. 2 * n) is.fits.0)
+digits_are size text (digest, is) = (
+  ap (list_all is_small_digit) is.whole ∙ encoded_digits digest is.fits.1,
+  ap (λ t. length t) is.whole ∙ length-encode_with lower_digits digest ∙ ap (λ n. 2 * n) is.fits.0,
+)
 
 pub are_digest : (size : ℕ) (text : List ℕ) → AreDigits (2 * size) text → Accepts (IsDigestText size) text
 are_digest size text (all, len) =
@@ -183,16 +185,19 @@ digits_stop : (digits : ℕ) (text : List ℕ) (place : ℕ) → StopsDigits dig
 digits_stop digits text place at = record {
   within = at.within;
   outside = out (cases_lt place (length text));
-  goes_on = (zeros (digits - place), (
-    list_all-append is_small_digit (take place text) (zeros (digits - place))
-    ∙ and_from (list_all is_small_digit (take place text)) (list_all is_small_digit (zeros (digits - place))) at.before
-    (zeros_small (digits - place)),
-    (let e = length-append (take place text) (zeros (digits - place)) in
-    let f = length-take-le place text at.within in
-    let g = zeros_length (digits - place) in
-    let h = at.few in
-    omega (arith, e, f, g, h)),
-  ));
+  goes_on = (
+    zeros (digits - place),
+    (
+      list_all-append is_small_digit (take place text) (zeros (digits - place))
+          ∙ and_from (list_all is_small_digit (take place text)) (list_all is_small_digit (zeros (digits - place))) at.before
+          (zeros_small (digits - place)),
+      (let e = length-append (take place text) (zeros (digits - place)) in
+          let f = length-take-le place text at.within in
+          let g = zeros_length (digits - place) in
+          let h = at.few in
+          omega (arith, e, f, g, h)),
+    ),
+  );
   no_more = λ inside (rest, are). too_far inside rest are (at.stops inside);
 }
   where
@@ -204,6 +209,7 @@ digits_stop digits text place at = record {
         let f = length-take-le (place + 1) text (omega (arith, inside)) in
         let g = are.1 in
         absurd (omega (arith, e, f, g, past))
+
     out : ((place < length text) ⊎ (length text ≤ place)) → AreDigits digits text → ⊥
     out (inl inside) are =
         too_far inside (drop (place + 1) text)
@@ -219,3 +225,65 @@ pub digest_stops : (size : ℕ) (text : List ℕ) (place : ℕ) → StopsDigits 
     → IsPlace (Accepts (IsDigestText size)) text place
 digest_stops size text place at = same_place (AreDigits (2 * size)) (Accepts (IsDigestText size)) text place
     (are_digest size) (digits_are size) (digits_stop (2 * size) text place at)
+
+-- the ways in which a text stops to be so many digits
+
+pub all_more : (text : List ℕ) (i : ℕ) → i < length text → list_all is_small_digit (take i text) ≡ true
+    → is_small_digit (get_or text i 0) ≡ true → list_all is_small_digit (take (i + 1) text) ≡ true
+all_more text i inside all digit =
+    ap (list_all is_small_digit) (take_more text i 0 inside)
+    ∙ list_all-append is_small_digit (take i text) (get_or text i 0 ∷ [])
+    ∙ and_from (list_all is_small_digit (take i text)) (list_all is_small_digit (get_or text i 0 ∷ [])) all
+    (rw digit refl)
+
+pub stops_full : (digits : ℕ) (text : List ℕ) (i : ℕ) → i < length text → i ≡ digits
+    → list_all is_small_digit (take i text) ≡ true → StopsDigits digits text i
+stops_full digits text i inside full all = record {
+  within = omega (arith, inside);
+  few = omega (arith, full);
+  before = all;
+  stops = λ _. inr full;
+  ends = λ end. absurd (omega (arith, inside, end));
+}
+
+pub stops_bad : (digits : ℕ) (text : List ℕ) (i : ℕ) → i < length text → i ≤ digits
+    → list_all is_small_digit (take i text) ≡ true → is_small_digit (get_or text i 0) ≡ false
+    → StopsDigits digits text i
+stops_bad digits text i inside few all never = record {
+  within = omega (arith, inside);
+  few = few;
+  before = all;
+  stops = λ _. inl never;
+  ends = λ end. absurd (omega (arith, inside, end));
+}
+
+pub stops_short : (digits : ℕ) (text : List ℕ) → length text < digits → list_all is_small_digit text ≡ true
+    → StopsDigits digits text (length text)
+stops_short digits text short all = record {
+  within = omega arith;
+  few = omega (arith, short);
+  before = ap (list_all is_small_digit) (take_all (length text) text (omega arith)) ∙ all;
+  stops = λ inside. absurd (omega (arith, inside));
+  ends = λ _. short;
+}
+
+-- what `hex` reads of such digits
+pub record IsRead (size : ℕ) (text : List ℕ) : Type 0 where
+  pub digest : List ℕ
+  pub decoded : decode_sized text size ≡ Ok digest
+  pub is : IsDigestText size text digest
+
+pub digest_read : (size : ℕ) (text : List ℕ) → AreDigits (2 * size) text → IsRead size text
+digest_read size text (all, len) =
+    let inner = encoded size text all len in
+    let twice : 2 * length inner.bytes ≡ 2 * size = sym (length-encode_with lower_digits inner.bytes)
+    ∙ sym (ap (λ t. length t) inner.whole) ∙ len in
+    let even : (length text % 2 == 1) ≡ false = ne_eqb (length text % 2) 1 (λ e. absurd (omega (arith, e, len))) in
+    let half : (length text / 2 == size) ≡ true = eq-eqb (length text / 2) size (omega (arith, len)) in
+    let pairs : decode_pairs 0 text ≡ Ok inner.bytes = ap (decode_pairs 0) inner.whole
+    ∙ decode_pairs-encode_with lower_digits IsDigits-lower_digits 0 inner.bytes inner.are in
+    record {
+      digest = inner.bytes;
+      decoded = rw (even, half) pairs;
+      is = record { whole = inner.whole; fits = (omega (arith, twice), inner.are) };
+    }

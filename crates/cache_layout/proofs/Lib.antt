@@ -9,6 +9,7 @@ pub mod LineLaws
 pub mod Literals
 pub mod Named
 pub mod Parts
+pub mod Refused
 pub mod Tailed
 pub mod Tails
 pub mod Values

@@ -22,7 +22,7 @@ use Rattle.cache_layout.specs.Lines.{IsDigest, IsGoneLine, IsRecordLine, check_t
 use Rattle.cache_layout.specs.Places.{Lacks}
 use Rattle.cache_layout.specs.Readings.{bytes_or_none, candidate, check_in, checks_in, digest_in, ends_field, fits, gone_in, if_gone_line_is, if_line_is, is_bar, is_digest, is_sha256, record_in, record_of, third}
 use Rattle.cache_layout.specs.declared.record.Record.{Record}
-use Rattle.cache_layout.proofs.CheckLists.{checks_lack, name_lacks}
+use Rattle.cache_layout.proofs.CheckLists.{checks_lack, checks_some, name_lacks}
 use Rattle.cache_layout.proofs.Decimals.{all_digits}
 use Rattle.cache_layout.proofs.HexDigests.{encoded_digits}
 use Rattle.cache_layout.proofs.Values.{value_of}
@@ -133,19 +133,6 @@ split_names check (next ∷ checks) =
 some_names : (text : List ℕ) → 0 < length text → checks_in text ≡ map check_in (slice_split is_bar text)
 some_names [] some = absurd (omega (arith, some))
 some_names (x ∷ text) some = refl
-
-name_some : (check : Check) → 0 < length (check_text check)
-name_some Sha1 = omega arith
-name_some Md5 = omega arith
-name_some Sha256 = omega arith
-name_some NoCheck = omega arith
-
-checks_some : (check : Check) (checks : List Check) → 0 < length (checks_text (check ∷ checks))
-checks_some check [] = name_some check
-checks_some check (next ∷ checks) =
-    let some = name_some check in
-    let e = length-append (check_text check) (124 ∷ checks_text (next ∷ checks)) in
-    omega (arith, some, e)
 
 checks_back : (checks : List Check) → checks_in (checks_text checks) ≡ checks
 checks_back [] = refl

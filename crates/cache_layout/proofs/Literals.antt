@@ -40,8 +40,11 @@ after_at sign G text n at = record {
       let count : suc n + 1 ≡ suc (n + 1) = omega arith in
       let e : take (suc n + 1) (sign ∷ text) ≡ sign ∷ take (n + 1) text = ap (λ k. take k (sign ∷ text)) count in
       let whole : sign ∷ (take (n + 1) text ++ rest) ≡ sign ∷ after.rest = ap (λ t. t ++ rest) (sym e) ∙ after.whole in
-      at.no_more (omega (arith, more)) (rest, subst G
-      (sym (tail_same sign sign (take (n + 1) text ++ rest) after.rest whole)) after.is);
+      at.no_more (omega (arith, more)) (
+        rest,
+        subst G
+            (sym (tail_same sign sign (take (n + 1) text ++ rest) after.rest whole)) after.is,
+      );
 }
 
 not_first : (sign : ℕ) (G : List ℕ → Type 0) (text : List ℕ)
@@ -71,11 +74,14 @@ pub behind_at : (word : List ℕ) (G : List ℕ → Type 0) (text : List ℕ) (n
 behind_at word G text n at = record {
   within = let e = length-append word text in omega (arith, at.within, e);
   outside = λ behind. at.outside (subst G (sym (append_cancel_left word text behind.rest behind.whole)) behind.is);
-  goes_on = (at.goes_on.0, record {
-    rest = take n text ++ at.goes_on.0;
-    whole = ap (λ t. t ++ at.goes_on.0) (take-append-add word text n) ∙ append_assoc word (take n text) at.goes_on.0;
-    is = at.goes_on.1;
-  });
+  goes_on = (
+    at.goes_on.0,
+    record {
+      rest = take n text ++ at.goes_on.0;
+      whole = ap (λ t. t ++ at.goes_on.0) (take-append-add word text n) ∙ append_assoc word (take n text) at.goes_on.0;
+      is = at.goes_on.1;
+    },
+  );
   no_more = λ more (rest, behind).
       let e = length-append word text in
       let count : length word + n + 1 ≡ length word + (n + 1) = omega arith in
@@ -83,8 +89,11 @@ behind_at word G text n at = record {
       ap (λ k. take k (word ++ text)) count ∙ take-append-add word text (n + 1) in
       let whole : word ++ (take (n + 1) text ++ rest) ≡ word ++ behind.rest =
       sym (append_assoc word (take (n + 1) text) rest) ∙ ap (λ t. t ++ rest) (sym f) ∙ behind.whole in
-      at.no_more (omega (arith, more, e)) (rest, subst G
-      (sym (append_cancel_left word (take (n + 1) text ++ rest) behind.rest whole)) behind.is);
+      at.no_more (omega (arith, more, e)) (
+        rest,
+        subst G
+            (sym (append_cancel_left word (take (n + 1) text ++ rest) behind.rest whole)) behind.is,
+      );
 }
 
 pub not_behind : (word : List ℕ) (G : List ℕ → Type 0) (text : List ℕ)
@@ -105,12 +114,14 @@ not_behind (b ∷ word) G (c ∷ text) never k is = by (b == c) refl (λ inside.
       whole = after.whole ∙ ap (λ x. b ∷ x) after.is.whole;
       is = after.is.is;
     }
+
     back : (t : List ℕ) → Behind (b ∷ word) G t → After b (Behind word G) t
     back t behind = record {
       rest = word ++ behind.rest;
       whole = behind.whole;
       is = record { rest = behind.rest; whole = refl; is = behind.is };
     }
+
     by : (same : Bool) → (b == c) ≡ same
         → (((rest : List ℕ) → text ≡ word ++ rest → ⊥) → IsPlace (Behind word G) text (common word text))
         → IsPlace (Behind (b ∷ word) G) (c ∷ text) (cond same (suc (common word text)) 0)
@@ -144,8 +155,10 @@ literal (b ∷ word) (c ∷ text) never = by (b == c) refl (literal word text)
   where
     into : (t : List ℕ) → After b (λ x. x ≡ word) t → t ≡ b ∷ word
     into t after = after.whole ∙ ap (λ x. b ∷ x) after.is
+
     back : (t : List ℕ) → t ≡ b ∷ word → After b (λ x. x ≡ word) t
     back t e = record { rest = word; whole = e; is = refl }
+
     by : (same : Bool) → (b == c) ≡ same
         → ((text ≡ word → ⊥) → IsPlace (λ t. t ≡ word) text (common word text))
         → IsPlace (λ t. t ≡ b ∷ word) (c ∷ text) (cond same (suc (common word text)) 0)
@@ -176,6 +189,7 @@ either_left G H text m n below p q = record {
     out : Either G H text → ⊥
     out (inl g) = p.outside g
     out (inr h) = q.outside h
+
     no_more : m < length text → GoesOn (Either G H) (take (m + 1) text) → ⊥
     no_more more (rest, inl g) = p.no_more more (rest, g)
     no_more more (rest, inr h) =
@@ -189,6 +203,7 @@ either_right G H text m n below p q = same_place (Either H G) (Either G H) text 
     turned : (t : List ℕ) → Either H G t → Either G H t
     turned t (inl h) = inr h
     turned t (inr g) = inl g
+
     turned_back : (t : List ℕ) → Either G H t → Either H G t
     turned_back t (inl g) = inr g
     turned_back t (inr h) = inl h

@@ -80,13 +80,16 @@ module _ {sign : ℕ} {First Second : List ℕ → Type 0} (apart : AreApart sig
       record {
         within = let e = length-append a b in omega (arith, at.within, e);
         outside = λ both. at.outside (subst Second (sym (cut_of a b p q both).1) both.is_second);
-        goes_on = (at.goes_on.0, record {
-          first = a;
-          second = take n b ++ at.goes_on.0;
-          whole = ap (λ t. t ++ at.goes_on.0) (take-append-add a b n) ∙ append_assoc a (take n b) at.goes_on.0;
-          is_first = is;
-          is_second = at.goes_on.1;
-        });
+        goes_on = (
+          at.goes_on.0,
+          record {
+            first = a;
+            second = take n b ++ at.goes_on.0;
+            whole = ap (λ t. t ++ at.goes_on.0) (take-append-add a b n) ∙ append_assoc a (take n b) at.goes_on.0;
+            is_first = is;
+            is_second = at.goes_on.1;
+          },
+        );
         no_more = λ more (rest, both).
             let e = length-append a b in
             let inside : n < length b = omega (arith, more, e) in
@@ -129,13 +132,16 @@ module _ {sign : ℕ} {First Second : List ℕ → Type 0} (apart : AreApart sig
       record {
         within = let e = length-append a b in omega (arith, at.within, e);
         outside = λ both. at.outside (subst First (sym (cut_of a b p q both).0) both.is_first);
-        goes_on = (at.goes_on.0 ++ k, record {
-          first = take n a ++ at.goes_on.0;
-          second = k;
-          whole = ap (λ t. t ++ (at.goes_on.0 ++ k)) (take-append-le n a b at.within)
-              ∙ sym (append_assoc (take n a) at.goes_on.0 k);
-          is_first = at.goes_on.1;
-          is_second = is;
-        });
+        goes_on = (
+          at.goes_on.0 ++ k,
+          record {
+            first = take n a ++ at.goes_on.0;
+            second = k;
+            whole = ap (λ t. t ++ (at.goes_on.0 ++ k)) (take-append-le n a b at.within)
+                ∙ sym (append_assoc (take n a) at.goes_on.0 k);
+            is_first = at.goes_on.1;
+            is_second = is;
+          },
+        );
         no_more = λ more goes. no_more_first a b n p q at more (cases_lt n (length a)) goes;
       }

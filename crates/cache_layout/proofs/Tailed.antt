@@ -16,7 +16,7 @@ use Rattle.cache_layout.specs.declared.record_lines.Ends.{Ends}
 use Rattle.cache_layout.specs.declared.record_lines.Times.{Times}
 use Rattle.cache_layout.proofs.CheckLists.{checks_lack}
 use Rattle.cache_layout.proofs.HexDigests.{encoded_digits, some_digest}
-use Rattle.cache_layout.proofs.Literals.{After}
+use Rattle.cache_layout.proofs.Literals.{After, same_place}
 use Rattle.cache_layout.proofs.Decimals.{all_digits}
 use Rattle.cache_layout.proofs.Parts.{AreApart, Both}
 use Rattle.cache_layout.proofs.Tails.{IsTail, some_tail}
@@ -66,9 +66,11 @@ moment_is text after a b moment p q number end = record {
 
 into_moment : (text : List ℕ) → After 32 (Both Number IsLineEnd) text → Accepts IsMomentText text
 into_moment text after =
-    let number = after.is.is_first in
-    (number.0, moment_is text after.rest after.is.first after.is.second number.0 after.whole after.is.whole number.1
-    after.is.is_second)
+    let number = after.is.is_first in (
+      number.0,
+      moment_is text after.rest after.is.first after.is.second number.0 after.whole after.is.whole number.1
+          after.is.is_second,
+    )
 
 from_moment : (text : List ℕ) → Accepts IsMomentText text → After 32 (Both Number IsLineEnd) text
 from_moment text (moment, is) = record {
@@ -108,9 +110,11 @@ length_is text after a b len moment p q number end = record {
 into_length : (text : List ℕ) → After 32 (Both Number (Accepts IsMomentText)) text → Accepts IsLengthText text
 into_length text after =
     let number = after.is.is_first in
-    let moment = after.is.is_second in
-    (times_of number.0 moment.0, length_is text after.rest after.is.first after.is.second number.0 moment.0 after.whole
-    after.is.whole number.1 moment.1)
+    let moment = after.is.is_second in (
+      times_of number.0 moment.0,
+      length_is text after.rest after.is.first after.is.second number.0 moment.0 after.whole
+          after.is.whole number.1 moment.1,
+    )
 
 from_length : (text : List ℕ) → Accepts IsLengthText text → After 32 (Both Number (Accepts IsMomentText)) text
 from_length text (times, is) = record {
@@ -155,9 +159,11 @@ second_is text after a b digest times p q is end = record {
 into_second : (text : List ℕ) → After 32 (Both (Digest 32) (Accepts IsLengthText)) text → Accepts (IsEndText true) text
 into_second text after =
     let digest = after.is.is_first in
-    let times = after.is.is_second in
-    (ends_of (Some digest.0) times.0, second_is text after.rest after.is.first after.is.second digest.0 times.0 after.whole
-    after.is.whole digest.1 times.1)
+    let times = after.is.is_second in (
+      ends_of (Some digest.0) times.0,
+      second_is text after.rest after.is.first after.is.second digest.0 times.0 after.whole
+          after.is.whole digest.1 times.1,
+    )
 
 from_second : (text : List ℕ) (sha256 : Option (List ℕ)) (times : Times)
     → IsEndText true text (record { sha256 = sha256; times = times })
@@ -216,6 +222,10 @@ from_ends_first text (Some digest) times is = absurd (not_both is.format)
 pub from_first : (text : List ℕ) → Accepts (IsEndText false) text → Accepts IsLengthText text
 from_first text is = from_ends_first text is.0.sha256 is.0.times is.1
 
+pub first_place : (text : List ℕ) (n : ℕ) → IsPlace (Accepts IsLengthText) text n
+    → IsPlace (Accepts (IsEndText false)) text n
+first_place text n at = same_place (Accepts IsLengthText) (Accepts (IsEndText false)) text n into_first from_first at
+
 some_end : (second : Bool) → (text : List ℕ) × Accepts (IsEndText second) text
 some_end true = some_tail second_tail
 some_end false = ((some_tail length_tail).0, into_first (some_tail length_tail).0 (some_tail length_tail).1)
@@ -248,9 +258,11 @@ module _ (second : Bool) where
       → Accepts (IsDigestsText second) text
   into_digests text after =
       let sha1 = after.is.is_first in
-      let ends = after.is.is_second in
-      (digests_of sha1.0 ends.0, digests_is text after.rest after.is.first after.is.second sha1.0 ends.0 after.whole
-      after.is.whole sha1.1 ends.1)
+      let ends = after.is.is_second in (
+        digests_of sha1.0 ends.0,
+        digests_is text after.rest after.is.first after.is.second sha1.0 ends.0 after.whole
+            after.is.whole sha1.1 ends.1,
+      )
 
   from_digests : (text : List ℕ) → Accepts (IsDigestsText second) text
       → After 32 (Both (Digest 20) (Accepts (IsEndText second))) text
@@ -263,13 +275,16 @@ module _ (second : Bool) where
       second = sha256_text digests.ends.sha256 digests.ends.times.length digests.ends.times.moment;
       whole = refl;
       is_first = (digests.sha1, record { whole = refl; fits = is.sha1 });
-      is_second = (digests.ends, record {
-        whole = refl;
-        format = is.format;
-        sha256 = is.sha256;
-        small_length = is.small_length;
-        small_moment = is.small_moment;
-      });
+      is_second = (
+        digests.ends,
+        record {
+          whole = refl;
+          format = is.format;
+          sha256 = is.sha256;
+          small_length = is.small_length;
+          small_moment = is.small_moment;
+        },
+      );
     };
   }
 
@@ -304,9 +319,11 @@ module _ (second : Bool) where
       → Accepts (IsFieldsText second) text
   into_fields text after =
       let checks = after.is.is_first in
-      let digests = after.is.is_second in
-      (record_from checks.0 digests.0, fields_is text after.rest after.is.first after.is.second checks.0 digests.0
-      after.whole after.is.whole checks.1 digests.1)
+      let digests = after.is.is_second in (
+        record_from checks.0 digests.0,
+        fields_is text after.rest after.is.first after.is.second checks.0 digests.0
+            after.whole after.is.whole checks.1 digests.1,
+      )
 
   from_fields : (text : List ℕ) → Accepts (IsFieldsText second) text
       → After 32 (Both (Accepts AreChecks) (Accepts (IsDigestsText second))) text
@@ -322,14 +339,17 @@ module _ (second : Bool) where
           second = digests_text entry.sha1 entry.sha256 entry.length entry.moment;
           whole = refl;
           is_first = (entry.checks, refl);
-          is_second = (digests, record {
-            whole = refl;
-            format = is.format;
-            sha1 = is.sha1;
-            sha256 = is.sha256;
-            small_length = is.small_length;
-            small_moment = is.small_moment;
-          });
+          is_second = (
+            digests,
+            record {
+              whole = refl;
+              format = is.format;
+              sha1 = is.sha1;
+              sha256 = is.sha256;
+              small_length = is.small_length;
+              small_moment = is.small_moment;
+            },
+          );
         };
       }
 
@@ -337,8 +357,11 @@ module _ (second : Bool) where
   fields_tail = record {
     apart = record {
       lacks = λ t is. subst (Lacks 32) (sym is.1) (checks_lack 32 refl bar_no_space is.0);
-      begins = λ t is. inr (encode_lower is.0.sha1
-          ++ sha256_text is.0.ends.sha256 is.0.ends.times.length is.0.ends.times.moment, is.1.whole);
+      begins = λ t is. inr (
+        encode_lower is.0.sha1
+            ++ sha256_text is.0.ends.sha256 is.0.ends.times.length is.0.ends.times.moment,
+        is.1.whole,
+      );
     };
     into = into_fields;
     back = from_fields;

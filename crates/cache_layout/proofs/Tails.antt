@@ -15,17 +15,23 @@ pub record IsTail (sign : ℕ) (First Second Tail : List ℕ → Type 0) : Type 
 
 module _ {sign : ℕ} {First Second Tail : List ℕ → Type 0} (tail : IsTail sign First Second Tail) where
   some_both : (text : List ℕ) × Both First Second text
-  some_both = (tail.some_first.0 ++ tail.some_second.0, record {
-    first = tail.some_first.0;
-    second = tail.some_second.0;
-    whole = refl;
-    is_first = tail.some_first.1;
-    is_second = tail.some_second.1;
-  })
+  some_both = (
+    tail.some_first.0 ++ tail.some_second.0,
+    record {
+      first = tail.some_first.0;
+      second = tail.some_second.0;
+      whole = refl;
+      is_first = tail.some_first.1;
+      is_second = tail.some_second.1;
+    },
+  )
 
   pub some_tail : (text : List ℕ) × Tail text
-  some_tail = (32 ∷ some_both.0, tail.into (32 ∷ some_both.0)
-      (record { rest = some_both.0; whole = refl; is = some_both.1 }))
+  some_tail = (
+    32 ∷ some_both.0,
+    tail.into (32 ∷ some_both.0)
+        (record { rest = some_both.0; whole = refl; is = some_both.1 }),
+  )
 
   -- no space
   pub no_space : (text : List ℕ) → ((rest : List ℕ) → text ≡ 32 ∷ rest → ⊥) → IsPlace Tail text 0

@@ -117,6 +117,16 @@ module _ (f : List ℕ → Bool) (sign : ℕ) (g : List ℕ → Bool) where
       ap (is_with f sign g) e ∙ with_second both.first after.rest (lacks both.first both.is_first)
       ∙ and_from (f both.first) (g after.rest) both.is_first after.is
 
+  pub holds_alone : (text a b : List ℕ) → text ≡ a ++ b → IsBefore sign a b → b ≡ [] → f a ≡ true
+      → is_with f sign g text ≡ true
+  holds_alone text a b whole before none is =
+      ap (is_with f sign g) (whole ∙ ap (λ t. a ++ t) none ∙ append-nil a) ∙ alone a before.lacks ∙ is
+
+  pub holds_both : (text a b r : List ℕ) → text ≡ a ++ b → IsBefore sign a b → b ≡ sign ∷ r → f a ≡ true → g r ≡ true
+      → is_with f sign g text ≡ true
+  holds_both text a b r whole before more is too =
+      ap (is_with f sign g) (whole ∙ ap (λ t. a ++ t) more) ∙ with_second a r before.lacks ∙ and_from (f a) (g r) is too
+
   module _ (lacks : (t : List ℕ) → f t ≡ true → Lacks sign t) where
     apart : AreApart sign (Holds f) Maybe
     apart = record { lacks = lacks; begins = maybe_begins }

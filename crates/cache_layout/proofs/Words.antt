@@ -31,8 +31,11 @@ lacks_more sign text i inside p never = subst (Lacks sign) (sym (take_more text 
 
 pub begins_at : (sign : ℕ) (text : List ℕ) (i : ℕ) → i < length text → get_or text i 0 ≡ sign
     → Begins sign (drop i text)
-begins_at sign text i inside is = inr (drop (i + 1) text, drop_more text i 0 inside
-    ∙ ap (λ b. b ∷ drop (i + 1) text) is)
+begins_at sign text i inside is = inr (
+  drop (i + 1) text,
+  drop_more text i 0 inside
+      ∙ ap (λ b. b ∷ drop (i + 1) text) is,
+)
 
 common_same : (b c : ℕ) (word text : List ℕ) → b ≡ c → common (b ∷ word) (c ∷ text) ≡ suc (common word text)
 common_same b c word text e = rw (eq-eqb b c e) refl
@@ -88,10 +91,16 @@ between_past low high byte h = and_right (nat_le low byte) (nat_le byte high) (l
 
 name_byte_past : (byte : ℕ) → 127 < byte → is_name_byte byte ≡ false
 name_byte_past byte h =
-    rw (between_past 65 90 byte (omega (arith, h)), between_past 97 122 byte (omega (arith, h)),
-        between_past 48 57 byte (omega (arith, h)), ne_eqb byte 95 (λ e. absurd (omega (arith, e, h))),
-        ne_eqb byte 45 (λ e. absurd (omega (arith, e, h))), ne_eqb byte 46 (λ e. absurd (omega (arith, e, h))),
-        ne_eqb byte 43 (λ e. absurd (omega (arith, e, h))), ne_eqb byte 47 (λ e. absurd (omega (arith, e, h)))) refl
+    rw (
+      between_past 65 90 byte (omega (arith, h)),
+      between_past 97 122 byte (omega (arith, h)),
+      between_past 48 57 byte (omega (arith, h)),
+      ne_eqb byte 95 (λ e. absurd (omega (arith, e, h))),
+      ne_eqb byte 45 (λ e. absurd (omega (arith, e, h))),
+      ne_eqb byte 46 (λ e. absurd (omega (arith, e, h))),
+      ne_eqb byte 43 (λ e. absurd (omega (arith, e, h))),
+      ne_eqb byte 47 (λ e. absurd (omega (arith, e, h))),
+    ) refl
 
 pub name_byte_small : (byte : ℕ) → is_name_byte byte ≡ true → byte < 128
 name_byte_small byte is = by (cases_lt byte 128)
@@ -99,3 +108,17 @@ name_byte_small byte is = by (cases_lt byte 128)
     by : ((byte < 128) ⊎ (128 ≤ byte)) → byte < 128
     by (inl below) = below
     by (inr past) = let other = name_byte_past byte (omega (arith, past)) in cc
+
+-- a test that was passed or not
+pub not_so : {P : Type 0} (b : Bool) → ((b ≡ true → P) × (P → b ≡ true)) → b ≡ false → P → ⊥
+not_so b both e p = let f : b ≡ true = both.1 p in cc
+
+-- the rest is empty where the sign does not stand behind the first part
+pub rest_empty : (sign : ℕ) (rest : List ℕ) → Begins sign rest → ((r : List ℕ) → rest ≡ sign ∷ r → ⊥) → rest ≡ []
+rest_empty sign rest (inl none) never = none
+rest_empty sign rest (inr (r, is)) never = absurd (never r is)
+
+-- and begins with it where it is not empty
+pub rest_some : (sign : ℕ) (rest : List ℕ) → Begins sign rest → (rest ≡ [] → ⊥) → (r : List ℕ) × (rest ≡ sign ∷ r)
+rest_some sign rest (inl none) never = absurd (never none)
+rest_some sign rest (inr some) never = some

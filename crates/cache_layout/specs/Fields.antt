@@ -1,10 +1,13 @@
 -- The fields of a line, each by itself and with what follows it.
-use Rattle.std.specs.Prelude.{◌≡◌, ◌⊎◌, ℕ, ◌+◌, ◌-◌, ◌*◌, ◌<◌, ◌≤◌, ◌^◌, Bool, true, false, ◌||◌, List, ◌∷◌, ◌++◌, Option, IfSome, is_some, length, slice_index, take}
+use Rattle.std.specs.Prelude.{◌≡◌, ◌⊎◌, ℕ, ◌+◌, ◌-◌, ◌*◌, ◌<◌, ◌≤◌, ◌^◌, Bool, true, false, ◌||◌, List, [], ◌∷◌, ◌++◌, Option, IfSome, codes, is_some, length, max, slice_index, take}
 use Rattle.std.specs.List.{list_all}
 use Rattle.std.specs.Fmt.{decimal}
 use Rattle.hex.specs.Hex.{encode_lower}
+use Rattle.ascii_bytes.specs.Signs.{bar, space}
 use Rattle.ascii_bytes.specs.Classes.{between, is_digit}
 use Rattle.res_base.specs.declared.reading.Check.{Check}
+use Rattle.res_base.specs.declared.reading.Check.TheVariants.{Sha1, Md5, Sha256, NoCheck}
+use Rattle.cache_layout.specs.Places.{common}
 use Rattle.cache_layout.specs.Lines.{IsDigest, check_text, checks_text, digests_text, fields_text, length_text, moment_text, sha256_text}
 use Rattle.cache_layout.specs.declared.record.Record.{Record}
 use Rattle.cache_layout.specs.declared.record_lines.Digests.{Digests}
@@ -27,6 +30,17 @@ pub record GoesOnTo (least most i number byte more : ℕ) : Type 0 where
 
 abbrev pub IsCheckName : List ℕ → Check → Type 0
 IsCheckName text check = text ≡ check_text check
+
+-- how many bytes of a text begin one of the names of checks
+abbrev pub names_end : List ℕ → ℕ
+names_end name =
+    max (max (common (check_text Sha1) name) (common (check_text Md5) name))
+    (max (common (check_text Sha256) name) (common (check_text NoCheck) name))
+
+-- a vertical bar behind names, if there are any
+abbrev pub with_bar : List ℕ → List ℕ
+with_bar [] = []
+with_bar (byte ∷ names) = byte ∷ (names ++ bar ∷ [])
 
 abbrev pub AreChecks : List ℕ → List Check → Type 0
 AreChecks text checks = text ≡ checks_text checks
@@ -65,6 +79,17 @@ record_from checks digests = record {
   length = digests.ends.times.length;
   moment = digests.ends.times.moment;
 }
+
+-- the line of format 1 of these texts and numbers
+abbrev pub first_written : List ℕ → List ℕ → ℕ → ℕ → List ℕ
+first_written checks sha1 size moment =
+    codes "coursier-cache 1" ++ space ∷ (checks ++ space ∷ (sha1 ++ length_text size moment))
+
+-- and that of format 2
+abbrev pub second_written : List ℕ → List ℕ → List ℕ → ℕ → ℕ → List ℕ
+second_written checks sha1 sha256 size moment =
+    codes "coursier-cache 2"
+    ++ space ∷ (checks ++ space ∷ (sha1 ++ space ∷ (sha256 ++ length_text size moment)))
 
 -- of format 2, or of format 1
 pub record IsEndText (second : Bool) (text : List ℕ) (ends : Ends) : Type 0 where

@@ -82,13 +82,15 @@ fn read_authority(text: &[u8]) -> Result<(), usize>
     ensures read { OnOk result (IsAuthority text.now) }
     ensures refused { IfErr result (IsPlace IsAuthority text.now) }
 {
-    let (host, rest) = part(text, b':');
-    read_named::<HostByte>(host)?;
-    match rest {
-        [] => Ok(()),
-        [_, port @ ..] => match read_port(port) {
+    let cut = part(text, b':');
+    if let Err(place) = read_named::<HostByte>(cut.first) {
+        return Err(place);
+    }
+    match behind(cut.rest, b":") {
+        None => Ok(()),
+        Some(port) => match read_port(port) {
             Ok(()) => Ok(()),
-            Err(place) => Err(host.len() + 1 + place),
+            Err(place) => Err(cut.first.len() + 1 + place),
         },
     }
 }
@@ -100,14 +102,14 @@ fn read_file_path(text: &[u8]) -> Result<(), usize>
 {
     let mut at = 0;
     'parts: loop {
-        let (segment, rest) = part(&text[at..], b'/');
-        if let Err(place) = read_named::<SegmentByte>(segment) {
+        let cut = part(&text[at..], b'/');
+        if let Err(place) = read_named::<SegmentByte>(cut.first) {
             return Err(at + place);
         }
-        if rest.is_empty() {
+        if cut.rest.is_empty() {
             return Ok(());
         }
-        at += segment.len() + 1;
+        at += cut.first.len() + 1;
     }
 }
 
@@ -116,13 +118,15 @@ fn read_after_http(text: &[u8]) -> Result<(), usize>
     ensures read { OnOk result (IsAfterHttp text.now) }
     ensures refused { IfErr result (IsPlace IsAfterHttp text.now) }
 {
-    let (authority, rest) = part(text, b'/');
-    read_authority(authority)?;
-    match rest {
-        [] => Ok(()),
-        [_, path @ ..] => match read_file_path(path) {
+    let cut = part(text, b'/');
+    if let Err(place) = read_authority(cut.first) {
+        return Err(place);
+    }
+    match behind(cut.rest, b"/") {
+        None => Ok(()),
+        Some(path) => match read_file_path(path) {
             Ok(()) => Ok(()),
-            Err(place) => Err(authority.len() + 1 + place),
+            Err(place) => Err(cut.first.len() + 1 + place),
         },
     }
 }
@@ -146,19 +150,19 @@ pub(crate) fn read_address(text: &[u8]) -> Result<(), usize>
     ensures read { OnOk result (IsAddress text.now) }
     ensures refused { IfErr result (IsPlace IsAddress text.now) }
 {
-    let http = b"http://";
-    let file = b"file:";
-    if let Some(rest) = behind(text, http) {
+    if let Some(rest) = behind(text, b"http://") {
         return match read_after_http(rest) {
             Ok(()) => Ok(()),
-            Err(place) => Err(http.len() + place),
+            Err(place) => Err(7 + place),
         };
     }
-    if let Some(rest) = behind(text, file) {
+    if let Some(rest) = behind(text, b"file:") {
         return match read_after_file(rest) {
             Ok(()) => Ok(()),
-            Err(place) => Err(file.len() + place),
+            Err(place) => Err(5 + place),
         };
     }
-    Err(common(http, text).max(common(file, text)))
+    let http = common(b"http://", text);
+    let file = common(b"file:", text);
+    Err(http.max(file))
 }

@@ -1,8 +1,9 @@
 //! Lists of checks in a line.
-ghost use Rattle.std.specs.Prelude.{◌≡◌, [], IfErr, IfOk, ℕ, IsErrOf};
+ghost use Rattle.std.specs.Prelude.{◌≡◌, ◌≢◌, IfErr, IfOk, IsErrOf, MatchOption, OnOk, ℕ};
 ghost use Rattle.fault_place.specs.Place.{IsPlace};
 ghost use Rattle.fault_place.specs.Reader.{Accepts};
-ghost use Rattle.cache_layout.specs.Fields.{AreChecks, IsCheckName};
+ghost use Rattle.cache_layout.specs.Fields.{AreChecks, IsCheckName, names_end, with_bar};
+ghost use Rattle.res_base.specs.declared.reading.Check.{Check};
 ghost use Rattle.cache_layout.specs.Lines.{check_text, checks_text};
 
 use crate::errors::RecordErr;
@@ -22,18 +23,56 @@ fn check_text(check: Check) -> &'static str
     }
 }
 
+/// Puts a vertical bar behind the names so far, if there are any.
+fn push_bar(names: &mut Text) -> Result<(), NoMemory>
+    ensures { OnOk result (names.new ≡ with_bar names.old) }
+{
+    if names.is_empty() {
+        return Ok(());
+    }
+    names.push_str("|")
+}
+
 /// The names of checks, with a vertical bar between two.
 pub(crate) fn checks_text(alloc: Global, checks: &[Check]) -> Result<Text, NoMemory>
     ensures { IfOk result (λ text. text ≡ checks_text checks.now) }
 {
     let mut text = Text::new(alloc);
-    for (i, check) in checks.iter().enumerate() {
-        if i > 0 {
-            text.push_str("|")?;
-        }
+    for check in checks {
+        push_bar(&mut text)?;
         text.push_str(check_text(*check))?;
     }
     Ok(text)
+}
+
+/// The check of a name.
+fn check_named(name: &[u8]) -> Option<Check>
+    ensures { MatchOption result ((check : Check) → name.now ≢ check_text check) (λ check. name.now ≡ check_text check) }
+{
+    if is_word(name, b"sha1") {
+        return Some(Check::Sha1);
+    }
+    if is_word(name, b"md5") {
+        return Some(Check::Md5);
+    }
+    if is_word(name, b"sha256") {
+        return Some(Check::Sha256);
+    }
+    if is_word(name, b"none") {
+        return Some(Check::NoCheck);
+    }
+    None
+}
+
+/// How far a text goes with one of the names of checks.
+fn names_end(name: &[u8]) -> usize
+    ensures { result ≡ names_end name.now }
+{
+    let sha1 = common(b"sha1", name);
+    let md5 = common(b"md5", name);
+    let sha256 = common(b"sha256", name);
+    let none = common(b"none", name);
+    sha1.max(md5).max(sha256.max(none))
 }
 
 /// Reads the name of a check; else the place where the text leaves all these names.
@@ -41,23 +80,10 @@ fn read_check(name: &[u8]) -> Result<Check, usize>
     ensures read { IfOk result (IsCheckName name.now) }
     ensures refused { IfErr result (IsPlace (Accepts IsCheckName) name.now) }
 {
-    if is_word(name, b"sha1") {
-        return Ok(Check::Sha1);
+    match check_named(name) {
+        Some(check) => Ok(check),
+        None => Err(names_end(name)),
     }
-    if is_word(name, b"md5") {
-        return Ok(Check::Md5);
-    }
-    if is_word(name, b"sha256") {
-        return Ok(Check::Sha256);
-    }
-    if is_word(name, b"none") {
-        return Ok(Check::NoCheck);
-    }
-    let sha1 = common(b"sha1", name);
-    let md5 = common(b"md5", name);
-    let sha256 = common(b"sha256", name);
-    let none = common(b"none", name);
-    Err(sha1.max(md5).max(sha256.max(none)))
 }
 
 /// Reads names of checks with a vertical bar between two; no name at all is the empty list.
@@ -71,15 +97,15 @@ pub(crate) fn read_checks(alloc: Global, names: &[u8]) -> Result<List<Check>, Re
     }
     let mut at = 0;
     'parts: loop {
-        let (name, rest) = part(&names[at..], b'|');
-        let check = match read_check(name) {
+        let cut = part(&names[at..], b'|');
+        let check = match read_check(cut.first) {
             Ok(check) => check,
             Err(place) => return Err(RecordErr::BadLine(at + place)),
         };
         checks.push(check)?;
-        if rest.is_empty() {
+        if cut.rest.is_empty() {
             return Ok(checks);
         }
-        at += name.len() + 1;
+        at += cut.first.len() + 1;
     }
 }

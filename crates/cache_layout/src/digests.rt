@@ -19,7 +19,10 @@ fn digits_fault(text: &[u8], digits: usize) -> Option<usize>
         (StopsDigits digits text.now) }
 {
     for (i, byte) in text.iter().enumerate() {
-        if i == digits || !is_small_digit(*byte) {
+        if i == digits {
+            return Some(i);
+        }
+        if !is_small_digit(*byte) {
             return Some(i);
         }
     }

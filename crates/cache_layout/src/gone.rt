@@ -28,15 +28,15 @@ pub(crate) fn read_moment(text: &[u8]) -> Result<u64, usize>
     let Some(after) = behind(text, b" ") else {
         return Err(0);
     };
-    let (number, rest) = part(after, b'\n');
-    let moment = match read_number(number, 0, u64::MAX) {
+    let cut = part(after, b'\n');
+    let moment = match read_number(cut.first, 0, u64::MAX) {
         Ok(moment) => moment,
         Err(place) => return Err(1 + place),
     };
-    if is_word(rest, b"\n") {
+    if is_word(cut.rest, b"\n") {
         return Ok(moment);
     }
-    Err(1 + number.len() + common(b"\n", rest))
+    Err(1 + cut.first.len() + common(b"\n", cut.rest))
 }
 
 /// Reads the line of an absence record, and gives its moment.
@@ -46,12 +46,11 @@ pub fn read_gone(bytes: &[u8]) -> Result<u64, BadLine>
     ensures none { IfErr result (λ e. gone_in bytes.now ≡ None) }
     ensures refused { IfErr result (λ e. IsPlace (Accepts IsGoneLine) bytes.now e.0) }
 {
-    let begin = b"coursier-gone 1";
-    match behind(bytes, begin) {
-        None => Err(BadLine(common(begin, bytes))),
+    match behind(bytes, b"coursier-gone 1") {
+        None => Err(BadLine(common(b"coursier-gone 1", bytes))),
         Some(rest) => match read_moment(rest) {
             Ok(moment) => Ok(moment),
-            Err(place) => Err(BadLine(begin.len() + place)),
+            Err(place) => Err(BadLine(15 + place)),
         },
     }
 }

@@ -2,18 +2,31 @@
 ghost use Rattle.std.specs.Prelude.{◌≡◌, ◌≢◌, ◌++◌, ◌↔◌, ℕ, IfNone, IfSome, IsTrue, List};
 ghost use Rattle.cache_layout.specs.Places.{IsBefore, common};
 
-/// What stands before the first such byte, and the text from there on. Without one the second part
-/// is empty.
-pub(crate) fn part(text: &[u8], byte: u8) -> (&[u8], &[u8])
-    ensures whole { text.now ≡ result.0.now ++ result.1.now }
-    ensures before { IsBefore byte result.0.now result.1.now }
+/// A text in two parts.
+#[derive(Clone, Copy)]
+pub(crate) struct Parts<'a> {
+    pub first: &'a [u8],
+    pub rest: &'a [u8],
+}
+
+/// What stands before the first such byte, and the text from there on. Without one the rest is
+/// empty.
+pub(crate) fn part(text: &[u8], byte: u8) -> Parts<'_>
+    ensures whole { text.now ≡ result.first.now ++ result.rest.now }
+    ensures before { IsBefore byte result.first.now result.rest.now }
 {
     for (i, b) in text.iter().enumerate() {
         if *b == byte {
-            return (&text[..i], &text[i..]);
+            return Parts {
+                first: &text[..i],
+                rest: &text[i..],
+            };
         }
     }
-    (text, &[])
+    Parts {
+        first: text,
+        rest: &[],
+    }
 }
 
 /// How many bytes at the start of a word and of a text are the same.

@@ -3,7 +3,7 @@ ghost use Rattle.std.specs.Prelude.{◌≡◌, ◌↔◌, ◌+◌, ◌<◌, Some
 ghost use Rattle.cache_layout.specs.declared.record.Record.{Record};
 ghost use Rattle.fault_place.specs.Place.{IsPlace};
 ghost use Rattle.fault_place.specs.Reader.{Accepts};
-ghost use Rattle.cache_layout.specs.Fields.{IsDigestsText, IsEndText, IsFieldsText, IsLengthText, record_from};
+ghost use Rattle.cache_layout.specs.Fields.{IsDigestsText, IsEndText, IsFieldsText, IsLengthText, first_written, record_from, second_written};
 ghost use Rattle.cache_layout.specs.Lines.{IsRecordLine};
 ghost use Rattle.cache_layout.specs.Readings.{record_in};
 
@@ -17,6 +17,33 @@ use crate::record::Record;
 use res_base::{Check, List, NoMemory, Text};
 use std::alloc::Global;
 
+fn first_line(
+    alloc: Global,
+    checks: &str,
+    sha1: &str,
+    length: u64,
+    moment: u64,
+) -> Result<Text, NoMemory>
+    ensures { IfOk result (λ line. line ≡ first_written checks.now sha1.now length moment) }
+{
+    let line = format!(in alloc; "coursier-cache 1 {checks} {sha1} {length} {moment}\n")?;
+    Ok(Text::from_string(line))
+}
+
+fn second_line(
+    alloc: Global,
+    checks: &str,
+    sha1: &str,
+    sha256: &str,
+    length: u64,
+    moment: u64,
+) -> Result<Text, NoMemory>
+    ensures { IfOk result (λ line. line ≡ second_written checks.now sha1.now sha256.now length moment) }
+{
+    let line = format!(in alloc; "coursier-cache 2 {checks} {sha1} {sha256} {length} {moment}\n")?;
+    Ok(Text::from_string(line))
+}
+
 /// The line of a record: of format 2 where it has a SHA-256, else of format 1.
 pub fn record_line(alloc: Global, entry: &Record) -> Result<Text, NoMemory>
     ensures { IfOk result (λ line. IsRecordLine line entry.now) }
@@ -24,16 +51,21 @@ pub fn record_line(alloc: Global, entry: &Record) -> Result<Text, NoMemory>
     let checks = checks_text(alloc, entry.checks.as_slice())?;
     let checks = checks.as_str();
     let sha1 = hex::encode(alloc, entry.sha1)?;
-    let length = entry.length;
-    let moment = entry.moment;
-    let line = match entry.sha256 {
-        None => format!(in alloc; "coursier-cache 1 {checks} {sha1} {length} {moment}\n")?,
-        Some(sha256) => {
-            let sha256 = hex::encode(alloc, sha256)?;
-            format!(in alloc; "coursier-cache 2 {checks} {sha1} {sha256} {length} {moment}\n")?
+    let sha1 = sha1.as_str();
+    match entry.sha256 {
+        None => first_line(alloc, checks, sha1, entry.length, entry.moment),
+        Some(digest) => {
+            let sha256 = hex::encode(alloc, digest)?;
+            second_line(
+                alloc,
+                checks,
+                sha1,
+                sha256.as_str(),
+                entry.length,
+                entry.moment,
+            )
         }
-    };
-    Ok(Text::from_string(line))
+    }
 }
 
 /// A length and a moment, which end a line.
@@ -65,14 +97,14 @@ fn read_length(text: &[u8]) -> Result<Times, usize>
     let Some(after) = behind(text, b" ") else {
         return Err(0);
     };
-    let (number, rest) = part(after, b' ');
-    let length = match read_number(number, 0, u64::MAX) {
+    let cut = part(after, b' ');
+    let length = match read_number(cut.first, 0, u64::MAX) {
         Ok(length) => length,
         Err(place) => return Err(1 + place),
     };
-    match read_moment(rest) {
+    match read_moment(cut.rest) {
         Ok(moment) => Ok(Times { length, moment }),
-        Err(place) => Err(1 + number.len() + place),
+        Err(place) => Err(1 + cut.first.len() + place),
     }
 }
 
@@ -84,17 +116,17 @@ fn read_sha256(text: &[u8]) -> Result<Ends, usize>
     let Some(after) = behind(text, b" ") else {
         return Err(0);
     };
-    let (digits, rest) = part(after, b' ');
-    let sha256 = match read_digest::<32>(digits) {
+    let cut = part(after, b' ');
+    let sha256 = match read_digest::<32>(cut.first) {
         Ok(sha256) => sha256,
         Err(place) => return Err(1 + place),
     };
-    match read_length(rest) {
+    match read_length(cut.rest) {
         Ok(times) => Ok(Ends {
             sha256: Some(sha256),
             times,
         }),
-        Err(place) => Err(1 + digits.len() + place),
+        Err(place) => Err(1 + cut.first.len() + place),
     }
 }
 
@@ -123,14 +155,14 @@ fn read_digests(text: &[u8], second: bool) -> Result<Digests, usize>
     let Some(after) = behind(text, b" ") else {
         return Err(0);
     };
-    let (digits, rest) = part(after, b' ');
-    let sha1 = match read_digest::<20>(digits) {
+    let cut = part(after, b' ');
+    let sha1 = match read_digest::<20>(cut.first) {
         Ok(sha1) => sha1,
         Err(place) => return Err(1 + place),
     };
-    match read_ends(rest, second) {
+    match read_ends(cut.rest, second) {
         Ok(ends) => Ok(Digests { sha1, ends }),
-        Err(place) => Err(1 + digits.len() + place),
+        Err(place) => Err(1 + cut.first.len() + place),
     }
 }
 
@@ -157,15 +189,15 @@ fn read_fields(alloc: Global, text: &[u8], second: bool) -> Result<Record, Recor
     let Some(after) = behind(text, b" ") else {
         return Err(RecordErr::BadLine(0));
     };
-    let (names, rest) = part(after, b' ');
-    let checks = match read_checks(alloc, names) {
+    let cut = part(after, b' ');
+    let checks = match read_checks(alloc, cut.first) {
         Ok(checks) => checks,
         Err(RecordErr::BadLine(place)) => return Err(RecordErr::BadLine(1 + place)),
         Err(RecordErr::NoMemory) => return Err(RecordErr::NoMemory),
     };
-    match read_digests(rest, second) {
+    match read_digests(cut.rest, second) {
         Ok(digests) => Ok(record_of(checks, digests)),
-        Err(place) => Err(RecordErr::BadLine(1 + names.len() + place)),
+        Err(place) => Err(RecordErr::BadLine(1 + cut.first.len() + place)),
     }
 }
 
@@ -190,17 +222,17 @@ pub fn read_record(alloc: Global, bytes: &[u8]) -> Result<Record, RecordErr>
     ensures none { (n : ℕ) → IsErrOf result (RecordErr.BadLine n) → record_in bytes.now ≡ None }
     ensures refused { (n : ℕ) → IsErrOf result (RecordErr.BadLine n) → IsPlace (Accepts IsRecordLine) bytes.now n }
 {
-    let first = b"coursier-cache 1";
-    let second = b"coursier-cache 2";
-    if let Some(rest) = behind(bytes, first) {
-        return read_behind(alloc, first.len(), rest, false);
+    if let Some(rest) = behind(bytes, b"coursier-cache 1") {
+        let entry = read_behind(alloc, 16, rest, false);
+        return entry;
     }
-    if let Some(rest) = behind(bytes, second) {
-        return read_behind(alloc, second.len(), rest, true);
+    if let Some(rest) = behind(bytes, b"coursier-cache 2") {
+        let newer = read_behind(alloc, 16, rest, true);
+        return newer;
     }
-    Err(RecordErr::BadLine(
-        common(first, bytes).max(common(second, bytes)),
-    ))
+    let first = common(b"coursier-cache 1", bytes);
+    let second = common(b"coursier-cache 2", bytes);
+    Err(RecordErr::BadLine(first.max(second)))
 }
 
 /// A law, with nothing to run: a text is the line of a record exactly where it reads as that, so

@@ -1,2 +1,3 @@
--- Lists of checks, place by place.
+-- Lists of checks place by place, and who is asked.
 mod CheckPlaces
+mod Offline

@@ -123,7 +123,8 @@ pub fn decide(
     moment: u64,
     ttl: u64,
 ) -> Decision
-    ensures { result ≡ decision mode changing found.now checks.now moment ttl }
+    ensures table { result ≡ decision mode changing found.now checks.now moment ttl }
+    ensures offline { result ≡ Decision.Unavailable → mode ≡ Mode.Offline }
 {
     in_table(
         mode,
