@@ -188,3 +188,6 @@ pub escaped_more : (text : List ℕ) (i : ℕ) → i < length text
 escaped_more text i inside = ap escaped (take_more text i 0 inside)
     ∙ flat_map-append escaped_byte (take i text) (get_or text i 0 ∷ [])
     ∙ ap (λ t. escaped (take i text) ++ t) (append-nil (escaped_byte (get_or text i 0)))
+
+pub data_of : (url name : List ℕ) → name ≡ name_of url → is_data_name name ≡ true
+data_of url name e = ap is_data_name e ∙ names_data url

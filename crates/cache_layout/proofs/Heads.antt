@@ -3,7 +3,7 @@ use Rattle.std.proofs.Common.{◌≡◌, ◌⊎◌, inl, inr, ℕ, ◌+◌, ◌�
 use Rattle.std.specs.Prelude.{codes, is_some}
 use Rattle.fault_place.specs.Place.{IsPlace}
 use Rattle.fault_place.specs.Reader.{Accepts}
-use Rattle.cache_layout.specs.Fields.{IsFieldsText, IsMomentText}
+use Rattle.cache_layout.specs.Fields.{IsFieldsText, IsMomentText, format_head}
 use Rattle.cache_layout.specs.Lines.{IsGoneLine, IsRecordLine, fields_text, head_text, moment_text}
 use Rattle.cache_layout.specs.Places.{common}
 use Rattle.cache_layout.specs.declared.record.Record.{Record}
@@ -158,3 +158,15 @@ leaves_gone_head text never =
     let some = some_tail moment_tail in
     same_place (Behind gone_head (Accepts IsMomentText)) (Accepts IsGoneLine) text (common gone_head text) into_gone
     back_gone (not_behind gone_head (Accepts IsMomentText) text never some.0 some.1)
+
+-- a line by its format
+
+pub head_line : (second : Bool) (text rest : List ℕ) (entry : Record) → text ≡ format_head second ++ rest
+    → IsFieldsText second rest entry → IsRecordLine text entry
+head_line false = first_line
+head_line true = second_line
+
+pub leaves_head : (second : Bool) (text rest : List ℕ) (n m : ℕ) → text ≡ format_head second ++ rest → m ≡ 16 + n
+    → IsPlace (Accepts (IsFieldsText second)) rest n → IsPlace (Accepts IsRecordLine) text m
+leaves_head false = leaves_first
+leaves_head true = leaves_second

@@ -3,12 +3,14 @@ use Rattle.std.specs.Prelude.{◌≡◌, ◌⊎◌, ℕ, ◌+◌, ◌-◌, ◌*�
 use Rattle.std.specs.List.{list_all}
 use Rattle.std.specs.Fmt.{decimal}
 use Rattle.hex.specs.Hex.{encode_lower}
-use Rattle.ascii_bytes.specs.Signs.{bar, space}
+use Rattle.ascii_bytes.specs.Signs.{bar}
 use Rattle.ascii_bytes.specs.Classes.{between, is_digit}
 use Rattle.res_base.specs.declared.reading.Check.{Check}
 use Rattle.res_base.specs.declared.reading.Check.TheVariants.{Sha1, Md5, Sha256, NoCheck}
 use Rattle.cache_layout.specs.Places.{common}
 use Rattle.cache_layout.specs.Lines.{IsDigest, check_text, checks_text, digests_text, fields_text, length_text, moment_text, sha256_text}
+use Rattle.cache_layout.specs.declared.errors.RecordErr.{RecordErr}
+use Rattle.cache_layout.specs.declared.errors.RecordErr.TheVariants.{BadLine, NoMemory}
 use Rattle.cache_layout.specs.declared.record.Record.{Record}
 use Rattle.cache_layout.specs.declared.record_lines.Digests.{Digests}
 use Rattle.cache_layout.specs.declared.record_lines.Ends.{Ends}
@@ -80,16 +82,15 @@ record_from checks digests = record {
   moment = digests.ends.times.moment;
 }
 
--- the line of format 1 of these texts and numbers
-abbrev pub first_written : List ℕ → List ℕ → ℕ → ℕ → List ℕ
-first_written checks sha1 size moment =
-    codes "coursier-cache 1" ++ space ∷ (checks ++ space ∷ (sha1 ++ length_text size moment))
+-- how a line begins, of format 2 or of format 1
+abbrev pub format_head : Bool → List ℕ
+format_head false = codes "coursier-cache 1"
+format_head true = codes "coursier-cache 2"
 
--- and that of format 2
-abbrev pub second_written : List ℕ → List ℕ → List ℕ → ℕ → ℕ → List ℕ
-second_written checks sha1 sha256 size moment =
-    codes "coursier-cache 2"
-    ++ space ∷ (checks ++ space ∷ (sha1 ++ space ∷ (sha256 ++ length_text size moment)))
+-- a refusal behind so many more bytes
+abbrev pub moved : ℕ → RecordErr → RecordErr
+moved before (BadLine n) = BadLine (before + n)
+moved before NoMemory = NoMemory
 
 -- of format 2, or of format 1
 pub record IsEndText (second : Bool) (text : List ℕ) (ends : Ends) : Type 0 where

@@ -4,3 +4,4 @@ pub mod Lines
 pub mod Names
 pub mod Places
 pub mod Readings
+pub mod Rows

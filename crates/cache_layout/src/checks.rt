@@ -103,7 +103,8 @@ pub(crate) fn read_checks(alloc: Global, names: &[u8]) -> Result<List<Check>, Re
             Err(place) => return Err(RecordErr::BadLine(at + place)),
         };
         checks.push(check)?;
-        if cut.rest.is_empty() {
+        let is_last = cut.rest.is_empty();
+        if is_last {
             return Ok(checks);
         }
         at += cut.first.len() + 1;

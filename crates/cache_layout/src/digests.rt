@@ -5,6 +5,9 @@ ghost use Rattle.fault_place.specs.Place.{IsPlace};
 ghost use Rattle.fault_place.specs.Reader.{Accepts};
 ghost use Rattle.cache_layout.specs.Fields.{IsDigestText, StopsDigits, is_small_digit};
 
+use res_base::{NoMemory, Text};
+use std::alloc::Global;
+
 /// A hexadecimal digit with a small letter.
 fn is_small_digit(byte: u8) -> bool
     ensures { result ≡ is_small_digit byte }
@@ -31,6 +34,14 @@ fn digits_fault(text: &[u8], digits: usize) -> Option<usize>
     } else {
         None
     }
+}
+
+/// The hexadecimal digits of a digest, with small letters.
+pub(crate) fn digest_text<const N: usize>(alloc: Global, digest: &[u8; N]) -> Result<Text, NoMemory>
+    ensures { IfOk result (λ text. IsDigestText N text digest.now) }
+{
+    let text = hex::encode(alloc, *digest)?;
+    Ok(Text::from_string(text))
 }
 
 /// Reads a digest of N bytes in hexadecimal digits with small letters; else the place where the

@@ -1,5 +1,5 @@
 //! The names of files in the cache.
-ghost use Rattle.std.specs.Prelude.{◌≡◌, [], ◌∷◌, ◌++◌, ◌<◌, ℕ, List, codes, true, IfOk, OnOk, IsErrOf, slice_index, string_bytes};
+ghost use Rattle.std.specs.Prelude.{◌≡◌, drop, [], ◌∷◌, ◌++◌, ◌<◌, ℕ, List, codes, true, IfOk, OnOk, IsErrOf, slice_index, string_bytes};
 ghost use Rattle.fault_place.specs.Place.{IsPlace};
 ghost use Rattle.res_base.specs.Paths.{url_at};
 ghost use Rattle.cache_layout.specs.Addresses.{IsAddress};
@@ -67,6 +67,16 @@ fn name_in(alloc: Global, folder: &str, rest: &[u8]) -> Result<Text, NoMemory>
     Ok(Text::from_string(name))
 }
 
+/// What stands behind `file:`.
+fn behind_scheme(url: &[u8]) -> &[u8]
+    ensures { result.now ≡ drop 5 url.now }
+{
+    if url.len() < 5 {
+        return &[];
+    }
+    &url[5..]
+}
+
 /// The name of a URL.
 fn name_of(alloc: Global, url: &[u8]) -> Result<Text, NoMemory>
     ensures { IfOk result (λ name. name ≡ name_of url.now) }
@@ -76,7 +86,7 @@ fn name_of(alloc: Global, url: &[u8]) -> Result<Text, NoMemory>
     }
     match url.strip_prefix(b"file:/") {
         Some(rest) => name_in(alloc, "file/", rest),
-        None => name_in(alloc, "here/", url.get(5..).unwrap_or(&[])),
+        None => name_in(alloc, "here/", behind_scheme(url)),
     }
 }
 

@@ -1,14 +1,15 @@
 //! Lines of records.
-ghost use Rattle.std.specs.Prelude.{◌≡◌, ◌↔◌, ◌+◌, ◌<◌, Some, None, IfErr, IfOk, IsErrOf, List, ℕ, true};
+ghost use Rattle.std.specs.Prelude.{◌≡◌, ◌≢◌, ◌↔◌, ◌+◌, ◌++◌, ◌<◌, ◌^◌, Some, None, IfErr, IfNone, IfOk, IfSome, IsErrOf, List, OnOk, ℕ, false, max, true};
 ghost use Rattle.cache_layout.specs.declared.record.Record.{Record};
 ghost use Rattle.fault_place.specs.Place.{IsPlace};
 ghost use Rattle.fault_place.specs.Reader.{Accepts};
-ghost use Rattle.cache_layout.specs.Fields.{IsDigestsText, IsEndText, IsFieldsText, IsLengthText, first_written, record_from, second_written};
-ghost use Rattle.cache_layout.specs.Lines.{IsRecordLine};
+ghost use Rattle.cache_layout.specs.Fields.{IsDigestsText, IsEndText, IsFieldsText, IsLengthText, format_head, moved, record_from};
+ghost use Rattle.cache_layout.specs.Lines.{IsDigest, IsRecordLine, head_text, sha256_text};
+ghost use Rattle.cache_layout.specs.Places.{common};
 ghost use Rattle.cache_layout.specs.Readings.{record_in};
 
 use crate::checks::{checks_text, read_checks};
-use crate::digests::read_digest;
+use crate::digests::{digest_text, read_digest};
 use crate::errors::RecordErr;
 use crate::gone::read_moment;
 use crate::numbers::read_number;
@@ -17,55 +18,53 @@ use crate::record::Record;
 use res_base::{Check, List, NoMemory, Text};
 use std::alloc::Global;
 
-fn first_line(
-    alloc: Global,
-    checks: &str,
-    sha1: &str,
-    length: u64,
-    moment: u64,
-) -> Result<Text, NoMemory>
-    ensures { IfOk result (λ line. line ≡ first_written checks.now sha1.now length moment) }
+/// How a line begins, by its format.
+fn head_text(sha256: &Option<[u8; 32]>) -> &'static str
+    ensures { result.now ≡ head_text sha256.now }
 {
-    let line = format!(in alloc; "coursier-cache 1 {checks} {sha1} {length} {moment}\n")?;
-    Ok(Text::from_string(line))
+    match sha256 {
+        None => "coursier-cache 1",
+        Some(_) => "coursier-cache 2",
+    }
 }
 
-fn second_line(
+/// What follows the SHA-1 in a line.
+fn ends_text(
     alloc: Global,
-    checks: &str,
-    sha1: &str,
-    sha256: &str,
+    sha256: &Option<[u8; 32]>,
     length: u64,
     moment: u64,
 ) -> Result<Text, NoMemory>
-    ensures { IfOk result (λ line. line ≡ second_written checks.now sha1.now sha256.now length moment) }
+    ensures text { IfOk result (λ text. text ≡ sha256_text sha256.now length moment) }
+    ensures digest { OnOk result (IfSome sha256.now (IsDigest 32)) }
 {
-    let line = format!(in alloc; "coursier-cache 2 {checks} {sha1} {sha256} {length} {moment}\n")?;
-    Ok(Text::from_string(line))
+    match sha256 {
+        None => {
+            let ends = format!(in alloc; " {length} {moment}\n")?;
+            Ok(Text::from_string(ends))
+        }
+        Some(digest) => {
+            let digest = digest_text(alloc, digest)?;
+            let digest = digest.as_str();
+            let ends = format!(in alloc; " {digest} {length} {moment}\n")?;
+            Ok(Text::from_string(ends))
+        }
+    }
 }
 
 /// The line of a record: of format 2 where it has a SHA-256, else of format 1.
 pub fn record_line(alloc: Global, entry: &Record) -> Result<Text, NoMemory>
     ensures { IfOk result (λ line. IsRecordLine line entry.now) }
 {
+    let head = head_text(&entry.sha256);
     let checks = checks_text(alloc, entry.checks.as_slice())?;
+    let sha1 = digest_text(alloc, &entry.sha1)?;
+    let ends = ends_text(alloc, &entry.sha256, entry.length, entry.moment)?;
     let checks = checks.as_str();
-    let sha1 = hex::encode(alloc, entry.sha1)?;
     let sha1 = sha1.as_str();
-    match entry.sha256 {
-        None => first_line(alloc, checks, sha1, entry.length, entry.moment),
-        Some(digest) => {
-            let sha256 = hex::encode(alloc, digest)?;
-            second_line(
-                alloc,
-                checks,
-                sha1,
-                sha256.as_str(),
-                entry.length,
-                entry.moment,
-            )
-        }
-    }
+    let ends = ends.as_str();
+    let line = format!(in alloc; "{head} {checks} {sha1}{ends}")?;
+    Ok(Text::from_string(line))
 }
 
 /// A length and a moment, which end a line.
@@ -166,6 +165,17 @@ fn read_digests(text: &[u8], second: bool) -> Result<Digests, usize>
     }
 }
 
+/// A refusal behind so many more bytes.
+fn moved(refusal: RecordErr, before: usize) -> RecordErr
+    requires { (n : ℕ) → refusal ≡ RecordErr.BadLine n → before + n < 2 ^ 64 }
+    ensures { result ≡ moved before refusal }
+{
+    match refusal {
+        RecordErr::BadLine(place) => RecordErr::BadLine(before + place),
+        RecordErr::NoMemory => RecordErr::NoMemory,
+    }
+}
+
 fn record_of(checks: List<Check>, digests: Digests) -> Record
     ensures { result ≡ record_from checks digests }
 {
@@ -192,8 +202,7 @@ fn read_fields(alloc: Global, text: &[u8], second: bool) -> Result<Record, Recor
     let cut = part(after, b' ');
     let checks = match read_checks(alloc, cut.first) {
         Ok(checks) => checks,
-        Err(RecordErr::BadLine(place)) => return Err(RecordErr::BadLine(1 + place)),
-        Err(RecordErr::NoMemory) => return Err(RecordErr::NoMemory),
+        Err(refusal) => return Err(moved(refusal, 1)),
     };
     match read_digests(cut.rest, second) {
         Ok(digests) => Ok(record_of(checks, digests)),
@@ -201,18 +210,37 @@ fn read_fields(alloc: Global, text: &[u8], second: bool) -> Result<Record, Recor
     }
 }
 
-/// What follows the name and the format, as it is read behind so many bytes.
-fn read_behind(
-    alloc: Global,
-    before: usize,
-    text: &[u8],
+/// How a line of a record begins: its format, and what follows.
+#[derive(Clone, Copy)]
+struct Head<'a> {
     second: bool,
-) -> Result<Record, RecordErr> {
-    match read_fields(alloc, text, second) {
-        Ok(entry) => Ok(entry),
-        Err(RecordErr::BadLine(place)) => Err(RecordErr::BadLine(before + place)),
-        Err(RecordErr::NoMemory) => Err(RecordErr::NoMemory),
+    rest: &'a [u8],
+}
+
+fn read_head(bytes: &[u8]) -> Option<Head<'_>>
+    ensures some { IfSome result (λ head. bytes.now ≡ format_head head.second ++ head.rest.now) }
+    ensures no_first { IfNone result ((rest : List ℕ) → bytes.now ≢ format_head false ++ rest) }
+    ensures no_second { IfNone result ((rest : List ℕ) → bytes.now ≢ format_head true ++ rest) }
+{
+    if let Some(rest) = behind(bytes, b"coursier-cache 1") {
+        return Some(Head {
+            second: false,
+            rest,
+        });
     }
+    if let Some(rest) = behind(bytes, b"coursier-cache 2") {
+        return Some(Head { second: true, rest });
+    }
+    None
+}
+
+/// How far a text goes with one of these beginnings.
+fn heads_end(bytes: &[u8]) -> usize
+    ensures { result ≡ max (common (format_head false) bytes.now) (common (format_head true) bytes.now) }
+{
+    let first = common(b"coursier-cache 1", bytes);
+    let second = common(b"coursier-cache 2", bytes);
+    first.max(second)
 }
 
 /// Reads the line of a record, of either format.
@@ -222,17 +250,13 @@ pub fn read_record(alloc: Global, bytes: &[u8]) -> Result<Record, RecordErr>
     ensures none { (n : ℕ) → IsErrOf result (RecordErr.BadLine n) → record_in bytes.now ≡ None }
     ensures refused { (n : ℕ) → IsErrOf result (RecordErr.BadLine n) → IsPlace (Accepts IsRecordLine) bytes.now n }
 {
-    if let Some(rest) = behind(bytes, b"coursier-cache 1") {
-        let entry = read_behind(alloc, 16, rest, false);
-        return entry;
+    match read_head(bytes) {
+        None => Err(RecordErr::BadLine(heads_end(bytes))),
+        Some(head) => match read_fields(alloc, head.rest, head.second) {
+            Ok(entry) => Ok(entry),
+            Err(refusal) => Err(moved(refusal, 16)),
+        },
     }
-    if let Some(rest) = behind(bytes, b"coursier-cache 2") {
-        let newer = read_behind(alloc, 16, rest, true);
-        return newer;
-    }
-    let first = common(b"coursier-cache 1", bytes);
-    let second = common(b"coursier-cache 2", bytes);
-    Err(RecordErr::BadLine(first.max(second)))
 }
 
 /// A law, with nothing to run: a text is the line of a record exactly where it reads as that, so

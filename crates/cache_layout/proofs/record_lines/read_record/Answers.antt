@@ -1,65 +1,47 @@
-use Rattle.std.proofs.Common.{◌≡◌, max, subst, sym, ap, ◌∙◌}
+use Rattle.std.proofs.Common.{Err, ap, arith, subst, sym, ◌∙◌}
 use Rattle.fault_place.specs.Place.{IsPlace}
 use Rattle.fault_place.specs.Reader.{Accepts}
 use Rattle.cache_layout.specs.Lines.{IsRecordLine}
-use Rattle.cache_layout.specs.Places.{common}
-use Rattle.cache_layout.proofs.Heads.{first_head, first_line, leaves_first, leaves_heads, leaves_second, second_head, second_line}
+use Rattle.cache_layout.proofs.Heads.{head_line, leaves_head, leaves_heads}
 use Rattle.cache_layout.proofs.LineLaws.{back, none_outside}
-use Rattle.cache_layout.proofs.Refused.{at_bad_line, if_ok}
+use Rattle.cache_layout.proofs.Refused.{at_bad_line, err_same, moved_from}
 use Rattle.cache_layout.proofs.record_lines.read_record.Goals as goal
 
-pub returns-in-Some-clause-read : goal.returns-in-Some-clause-read
-returns-in-Some-clause-read c = if_ok (λ entry is. first_line c.args.bytes.now c.in-Some.rest.now entry c.in-Some.ensures.rest is)
-    c.read_behind-entry.result c.read_behind-entry.ensures.read
+pub moved-requires : goal.moved-requires
+moved-requires c = λ n e.
+    let within = (c.in-Err.ensures.refused n (ap Err e)).within in
+    omega (arith, within)
 
-pub returns-in-Some-clause-value : goal.returns-in-Some-clause-value
-returns-in-Some-clause-value c = if_ok (λ entry is. back c.args.bytes.now entry
-    (first_line c.args.bytes.now c.in-Some.rest.now entry c.in-Some.ensures.rest is)) c.read_behind-entry.result
-    c.read_behind-entry.ensures.read
+pub returns-in-None-clause-none : goal.returns-in-None-clause-none
+returns-in-None-clause-none c = λ n e. none_outside c.args.bytes.now
+    (leaves_heads c.args.bytes.now (λ rest. c.in-None.ensures.no_first rest)
+    (λ rest. c.in-None.ensures.no_second rest)).outside
 
-pub returns-in-Some-clause-none : goal.returns-in-Some-clause-none
-returns-in-Some-clause-none c = λ n e.
-    let at = c.read_behind-entry.ensures.refused n e in
+pub returns-in-None-clause-refused : goal.returns-in-None-clause-refused
+returns-in-None-clause-refused c = λ n e.
+    at_bad_line (Accepts IsRecordLine) c.args.bytes.now c.heads_end.result n e
+    (subst (IsPlace (Accepts IsRecordLine) c.args.bytes.now) (sym c.heads_end.ensures)
+    (leaves_heads c.args.bytes.now (λ rest. c.in-None.ensures.no_first rest)
+    (λ rest. c.in-None.ensures.no_second rest)))
+
+pub returns-in-Ok-clause-read : goal.returns-in-Ok-clause-read
+returns-in-Ok-clause-read c = head_line c.in-Some.head.second c.args.bytes.now c.in-Some.head.rest.now c.in-Ok.entry
+    c.in-Some.ensures.some c.in-Ok.ensures.read
+
+pub returns-in-Ok-clause-value : goal.returns-in-Ok-clause-value
+returns-in-Ok-clause-value c = back c.args.bytes.now c.in-Ok.entry
+    (head_line c.in-Some.head.second c.args.bytes.now c.in-Some.head.rest.now c.in-Ok.entry
+    c.in-Some.ensures.some c.in-Ok.ensures.read)
+
+pub returns-in-Err-clause-refused : goal.returns-in-Err-clause-refused
+returns-in-Err-clause-refused c = λ n e.
+    let from = moved_from c.in-Err.refusal 16 n (sym c.moved.ensures ∙ err_same c.moved.result _ e) in
+    leaves_head c.in-Some.head.second c.args.bytes.now c.in-Some.head.rest.now from.place n c.in-Some.ensures.some
+    from.now (c.in-Err.ensures.refused from.place (ap Err from.was))
+
+pub returns-in-Err-clause-none : goal.returns-in-Err-clause-none
+returns-in-Err-clause-none c = λ n e.
+    let from = moved_from c.in-Err.refusal 16 n (sym c.moved.ensures ∙ err_same c.moved.result _ e) in
     none_outside c.args.bytes.now
-    (leaves_first c.args.bytes.now c.in-Some.rest.now at.0 n c.in-Some.ensures.rest at.1 at.2).outside
-
-pub returns-in-Some-clause-refused : goal.returns-in-Some-clause-refused
-returns-in-Some-clause-refused c = λ n e.
-    let at = c.read_behind-entry.ensures.refused n e in
-    leaves_first c.args.bytes.now c.in-Some.rest.now at.0 n c.in-Some.ensures.rest at.1 at.2
-
-pub returns-in-Some-behind-clause-read : goal.returns-in-Some-behind-clause-read
-returns-in-Some-behind-clause-read c = if_ok (λ entry is. second_line c.args.bytes.now c.in-Some-behind.rest.now entry c.in-Some-behind.ensures.rest is)
-    c.read_behind-newer.result c.read_behind-newer.ensures.read
-
-pub returns-in-Some-behind-clause-value : goal.returns-in-Some-behind-clause-value
-returns-in-Some-behind-clause-value c = if_ok (λ entry is. back c.args.bytes.now entry
-    (second_line c.args.bytes.now c.in-Some-behind.rest.now entry c.in-Some-behind.ensures.rest is)) c.read_behind-newer.result
-    c.read_behind-newer.ensures.read
-
-pub returns-in-Some-behind-clause-none : goal.returns-in-Some-behind-clause-none
-returns-in-Some-behind-clause-none c = λ n e.
-    let at = c.read_behind-newer.ensures.refused n e in
-    none_outside c.args.bytes.now
-    (leaves_second c.args.bytes.now c.in-Some-behind.rest.now at.0 n c.in-Some-behind.ensures.rest at.1 at.2).outside
-
-pub returns-in-Some-behind-clause-refused : goal.returns-in-Some-behind-clause-refused
-returns-in-Some-behind-clause-refused c = λ n e.
-    let at = c.read_behind-newer.ensures.refused n e in
-    leaves_second c.args.bytes.now c.in-Some-behind.rest.now at.0 n c.in-Some-behind.ensures.rest at.1 at.2
-
-pub returns-clause-none : goal.returns-clause-none
-returns-clause-none c = λ n e. none_outside c.args.bytes.now
-    (leaves_heads c.args.bytes.now (λ rest. c.in_default.ensures.none rest)
-    (λ rest. c.in_default-behind.ensures.none rest)).outside
-
-pub returns-clause-refused : goal.returns-clause-refused
-returns-clause-refused c = λ n e.
-    let first = common first_head c.args.bytes.now in
-    let second = common second_head c.args.bytes.now in
-    let same : c.max.result ≡ max first second = c.max.ensures
-    ∙ ap (λ k. max k c.common-second.result) c.common-first.ensures ∙ ap (λ k. max first k) c.common-second.ensures in
-    at_bad_line (Accepts IsRecordLine) c.args.bytes.now c.max.result n e
-    (subst (IsPlace (Accepts IsRecordLine) c.args.bytes.now) (sym same)
-    (leaves_heads c.args.bytes.now (λ rest. c.in_default.ensures.none rest)
-    (λ rest. c.in_default-behind.ensures.none rest)))
+    (leaves_head c.in-Some.head.second c.args.bytes.now c.in-Some.head.rest.now from.place n c.in-Some.ensures.some
+    from.now (c.in-Err.ensures.refused from.place (ap Err from.was))).outside
