@@ -36,12 +36,18 @@ fn digits_fault(text: &[u8], digits: usize) -> Option<usize>
     }
 }
 
+fn bytes_text(alloc: Global, bytes: &[u8]) -> Result<Text, NoMemory>
+    ensures { IfOk result (λ text. IsDigestText (length bytes.now) text bytes.now) }
+{
+    let text = hex::encode(alloc, bytes)?;
+    Ok(Text::from_string(text))
+}
+
 /// The hexadecimal digits of a digest, with small letters.
 pub(crate) fn digest_text<const N: usize>(alloc: Global, digest: &[u8; N]) -> Result<Text, NoMemory>
     ensures { IfOk result (λ text. IsDigestText N text digest.now) }
 {
-    let text = hex::encode(alloc, *digest)?;
-    Ok(Text::from_string(text))
+    bytes_text(alloc, digest)
 }
 
 /// Reads a digest of N bytes in hexadecimal digits with small letters; else the place where the

@@ -54,7 +54,9 @@ fn same_checks(checks: &[Check], others: &[Check]) -> bool
         return false;
     }
     for i in 0..checks.len() {
-        if check_number(checks[i]) != check_number(others[i]) {
+        let mine = check_number(checks[i]);
+        let other = check_number(others[i]);
+        if mine != other {
             return false;
         }
     }

@@ -11,7 +11,8 @@ returns-in-Err-clause-refused c = λ n e. at_bad_address IsAddress c.args.addres
     (subst (λ t. IsPlace IsAddress t c.in-Err.place) c.as_bytes.ensures.value c.in-Err.ensures.refused)
 
 pub returns-clause-data_name : goal.returns-clause-data_name
-returns-clause-data_name c = data_of (url_at c.args.address.now c.args.path.now) _ (search rules)
+returns-clause-data_name c = data_of (url_at c.args.address.now c.args.path.now) c.in_ok-name_of.field-0
+    (search rules)
 
 pub returns-clause-address : goal.returns-clause-address
 returns-clause-address c = subst IsAddress c.as_bytes.ensures.value c.in_default.ensures.read

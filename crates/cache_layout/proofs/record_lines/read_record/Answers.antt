@@ -1,6 +1,8 @@
-use Rattle.std.proofs.Common.{Err, ap, arith, subst, sym, ◌∙◌}
+use Rattle.std.proofs.Common.{◌≡◌, ◌++◌, Err, ap, arith, length, subst, sym, ◌∙◌}
+use Rattle.std.proofs.lemmas.List.{length-append}
 use Rattle.fault_place.specs.Place.{IsPlace}
 use Rattle.fault_place.specs.Reader.{Accepts}
+use Rattle.cache_layout.specs.Fields.{format_head}
 use Rattle.cache_layout.specs.Lines.{IsRecordLine}
 use Rattle.cache_layout.proofs.Heads.{head_line, leaves_head, leaves_heads}
 use Rattle.cache_layout.proofs.LineLaws.{back, none_outside}
@@ -10,7 +12,11 @@ use Rattle.cache_layout.proofs.record_lines.read_record.Goals as goal
 pub moved-requires : goal.moved-requires
 moved-requires c = λ n e.
     let within = (c.in-Err.ensures.refused n (ap Err e)).within in
-    omega (arith, within)
+    let begin = format_head c.in-Some.head.second in
+    let whole : length c.args.bytes.now ≡ length (begin ++ c.in-Some.head.rest.now) =
+    ap (λ t. length t) c.in-Some.ensures.some in
+    let parts = length-append begin c.in-Some.head.rest.now in
+    omega (arith, within, whole, parts)
 
 pub returns-in-None-clause-none : goal.returns-in-None-clause-none
 returns-in-None-clause-none c = λ n e. none_outside c.args.bytes.now
