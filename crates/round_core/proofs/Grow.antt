@@ -46,11 +46,11 @@ use Rattle.round_core.proofs.Ends.{SameEnds, last_same, project_is, walk_same}
 use Rattle.round_core.proofs.Rising.{AtEnd, asked_ends, asked_rises, rising_distinct}
 use Rattle.round_core.proofs.Seen.{own_choice}
 
-or_none : (s t : Bool) → (s || t) ≡ false → (s ≡ false) × (t ≡ false)
+pub or_none : (s t : Bool) → (s || t) ≡ false → (s ≡ false) × (t ≡ false)
 or_none true t h = absurd (cc)
 or_none false t h = (refl, h)
 
-none_of : {A : Type 0} (test : A → Bool) (x : A) (xs : List A) → list_any test xs ≡ false → In x xs → test x ≡ false
+pub none_of : {A : Type 0} (test : A → Bool) (x : A) (xs : List A) → list_any test xs ≡ false → In x xs → test x ≡ false
 none_of test x xs h m = by (test x) refl
   where
     by : (t : Bool) → test x ≡ t → test x ≡ false
@@ -97,7 +97,7 @@ pub round_rises : (known : Known) (ask : Ask) (chosen : List ChoiceRow) (later :
 round_rises known ask chosen later h = later_rises known ask chosen later (steps_of known ask chosen later h)
 
 -- equal choices are of the same modules
-same_modules : (a b : List ChoiceRow) → choices_eq a b ≡ true → modules_of a ≡ modules_of b
+pub same_modules : (a b : List ChoiceRow) → choices_eq a b ≡ true → modules_of a ≡ modules_of b
 same_modules [] [] h = refl
 same_modules [] (y ∷ b) h = absurd (cc)
 same_modules (x ∷ a) [] h = absurd (cc)
@@ -106,7 +106,7 @@ same_modules (x ∷ a) (y ∷ b) h =
     let first : (module_eq x.«module» y.«module» ≡ true) × (choice_eq x.choice y.choice ≡ true) = and_both _ _ both.0 in
     ap (λ z. z ∷ modules_of a) (module_same x.«module» y.«module» first.0) ∙ ap (λ z. y.«module» ∷ z) (same_modules a b both.1)
 
-in_modules : (row : ChoiceRow) (rows : List ChoiceRow) → In row rows → In row.«module» (modules_of rows)
+pub in_modules : (row : ChoiceRow) (rows : List ChoiceRow) → In row rows → In row.«module» (modules_of rows)
 in_modules row [] h = elim h [ ]
 in_modules row (r ∷ rows) here = here
 in_modules row (r ∷ rows) (there h) = there (in_modules row rows h)

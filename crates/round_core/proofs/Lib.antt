@@ -19,3 +19,7 @@ pub mod Reached
 pub mod Turning
 pub mod Apart
 pub mod Made
+pub mod AskedFor
+pub mod Walked
+pub mod Ended
+pub mod Settlement

@@ -13,4 +13,5 @@ pub mod Verdicts
 pub mod Rounds
 pub mod Turns
 pub mod Reads
+pub mod Endings
 pub mod Rows

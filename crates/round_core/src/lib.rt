@@ -20,7 +20,7 @@ mod tests;
 mod verdict;
 
 pub use artifact_files::artifacts;
-pub use laws::{growth_laws, look_laws, wait_laws};
+pub use laws::{ending_laws, growth_laws, look_laws, request_laws, settled_laws, wait_laws};
 pub use one_round::{round, walk};
 pub use resolution::{
     Ask, Choice, ChoiceRow, Choices, ClashRow, Edge, FaultRow, Node, Progress, ProjectFault,
