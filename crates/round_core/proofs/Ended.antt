@@ -15,7 +15,8 @@ use Rattle.round_core.specs.Rounds.{Did, after_round, begun, one_more, round_of,
 use Rattle.round_core.specs.Verdicts.{verdict_of}
 use Rattle.round_core.proofs.Grow.{round_rises}
 
-pub did_rises : (known : Known) (ask : Ask) {n : ℕ} {chosen : List ChoiceRow} → Did known ask n chosen → Rises (modules_of chosen)
+pub did_rises : (known : Known) (ask : Ask) {n : ℕ} {chosen : List ChoiceRow} → Did known ask n chosen
+    → Rises (modules_of chosen)
 did_rises known ask begun = tt
 did_rises known ask (one_more {n} {chosen} {later} d e apart) = round_rises known ask chosen (record { rows = later }) e
 
@@ -25,11 +26,13 @@ module _ (known : Known) (ask : Ask) where
 
   -- ---- the rounds have such an ending
 
-  ends_from : (left done : ℕ) (chosen : List ChoiceRow) → Did known ask done chosen → done + left ≡ ask.rounds → IsEnding known ask (rounds_from known ask left done chosen)
+  ends_from : (left done : ℕ) (chosen : List ChoiceRow) → Did known ask done chosen → done + left ≡ ask.rounds
+      → IsEnding known ask (rounds_from known ask left done chosen)
   ends_from zero done chosen d e =
       let q : done ≡ ask.rounds = omega (arith, e) in
       subst (λ n. IsEnding known ask (Over (Unsettled n))) (sym q) (stops (subst (λ n. Did known ask n chosen) q d))
-  ends_from (suc left) done chosen d e = by (λ later did. ends_from left (done + 1) later did (omega (arith, e))) (round_of known ask chosen) refl
+  ends_from (suc left) done chosen d e =
+      by (λ later did. ends_from left (done + 1) later did (omega (arith, e))) (round_of known ask chosen) refl
     where
       may : done < ask.rounds
       may = omega (arith, e)
@@ -37,13 +40,22 @@ module _ (known : Known) (ask : Ask) where
       more : done + 1 ≡ suc done
       more = omega arith
 
-      on : ((later : List ChoiceRow) → Did known ask (done + 1) later → IsEnding known ask (rounds_from known ask left (done + 1) later)) → (later : Choices) → round_of known ask chosen ≡ Next later
-          → (t : Bool) → choices_eq chosen later.rows ≡ t → IsEnding known ask (settled_or t chosen later.rows (verdict_after done) (rounds_from known ask left (done + 1)))
+      on : ((later : List ChoiceRow) → Did known ask (done + 1) later
+          → IsEnding known ask (rounds_from known ask left (done + 1) later)) → (later : Choices)
+          → round_of known ask chosen ≡ Next later
+          → (t : Bool) → choices_eq chosen later.rows ≡ t
+          → IsEnding known ask
+          (settled_or t chosen later.rows (verdict_after done) (rounds_from known ask left (done + 1)))
       on further later h true same = settles may d h same
-      on further later h false apart = further later.rows (subst (λ n. Did known ask n later.rows) (sym more) (one_more {later = later.rows} d h apart))
+      on further later h false apart =
+          further later.rows
+          (subst (λ n. Did known ask n later.rows) (sym more) (one_more {later = later.rows} d h apart))
 
-      by : ((later : List ChoiceRow) → Did known ask (done + 1) later → IsEnding known ask (rounds_from known ask left (done + 1) later)) → (answer : RoundAnswer) → round_of known ask chosen ≡ answer
-          → IsEnding known ask (after_round answer done chosen (verdict_after done) (rounds_from known ask left (done + 1)))
+      by : ((later : List ChoiceRow) → Did known ask (done + 1) later
+          → IsEnding known ask (rounds_from known ask left (done + 1) later)) → (answer : RoundAnswer)
+          → round_of known ask chosen ≡ answer
+          → IsEnding known ask
+          (after_round answer done chosen (verdict_after done) (rounds_from known ask left (done + 1)))
       by further (Needs keys) h = waits may d h
       by further (Next later) h = on further later h (choices_eq chosen later.rows) refl
 
@@ -52,12 +64,15 @@ module _ (known : Known) (ask : Ask) where
 
   -- ---- and no other
 
-  one_round : (left done : ℕ) (chosen : List ChoiceRow) → rounds_from known ask (suc left) done chosen ≡ after_round (round_of known ask chosen) done chosen (verdict_after done) (rounds_from known ask left (done + 1))
+  one_round : (left done : ℕ) (chosen : List ChoiceRow) → rounds_from known ask (suc left) done chosen
+      ≡ after_round (round_of known ask chosen) done chosen (verdict_after done) (rounds_from known ask left (done + 1))
   one_round left done chosen = refl
 
   -- rounds go on from those that were done
-  pub goes_on : {done : ℕ} {chosen : List ChoiceRow} → Did known ask done chosen → done ≤ ask.rounds → rounds_of known ask ≡ rounds_from known ask (ask.rounds - done) done chosen
-  goes_on begun h = let all : ask.rounds - 0 ≡ ask.rounds = omega arith in ap (λ n. rounds_from known ask n 0 []) (sym all)
+  pub goes_on : {done : ℕ} {chosen : List ChoiceRow} → Did known ask done chosen → done ≤ ask.rounds
+      → rounds_of known ask ≡ rounds_from known ask (ask.rounds - done) done chosen
+  goes_on begun h = let all : ask.rounds - 0 ≡ ask.rounds =
+      omega arith in ap (λ n. rounds_from known ask n 0 []) (sym all)
   goes_on (one_more {n} {chosen} {later} d e apart) h =
       let left : ask.rounds - n ≡ suc (ask.rounds - suc n) = omega (arith, h) in
       let more : n + 1 ≡ suc n = omega arith in
@@ -69,15 +84,24 @@ module _ (known : Known) (ask : Ask) where
       ∙ ap (λ k. rounds_from known ask (ask.rounds - suc n) k later) more
 
   last_round : {done : ℕ} {chosen : List ChoiceRow} → Did known ask done chosen → done < ask.rounds
-      → rounds_of known ask ≡ after_round (round_of known ask chosen) done chosen (verdict_after done) (rounds_from known ask (ask.rounds - suc done) (done + 1))
+      → rounds_of known ask
+      ≡ after_round (round_of known ask chosen) done chosen (verdict_after done)
+      (rounds_from known ask (ask.rounds - suc done) (done + 1))
   last_round {done} {chosen} d h =
       let left : ask.rounds - done ≡ suc (ask.rounds - suc done) = omega (arith, h) in
-      goes_on d (omega (arith, h)) ∙ ap (λ k. rounds_from known ask k done chosen) left ∙ one_round (ask.rounds - suc done) done chosen
+      goes_on d (omega (arith, h)) ∙ ap (λ k. rounds_from known ask k done chosen) left
+      ∙ one_round (ask.rounds - suc done) done chosen
 
   pub only : {progress : Progress} → IsEnding known ask progress → rounds_of known ask ≡ progress
-  only (waits {done} {chosen} {keys} h d e) = last_round d h ∙ ap (λ a. after_round a done chosen (verdict_after done) (rounds_from known ask (ask.rounds - suc done) (done + 1))) e
+  only (waits {done} {chosen} {keys} h d e) =
+      last_round d h
+      ∙ ap (λ a. after_round a done chosen (verdict_after done)
+      (rounds_from known ask (ask.rounds - suc done) (done + 1))) e
   only (settles {done} {chosen} {later} h d e same) =
       last_round d h
-      ∙ ap (λ a. after_round a done chosen (verdict_after done) (rounds_from known ask (ask.rounds - suc done) (done + 1))) e
-      ∙ ap (λ t. settled_or t chosen later.rows (verdict_after done) (rounds_from known ask (ask.rounds - suc done) (done + 1))) same
-  only (stops {chosen} d) = let none : ask.rounds - ask.rounds ≡ 0 = omega arith in goes_on d (omega arith) ∙ ap (λ k. rounds_from known ask k ask.rounds chosen) none
+      ∙ ap (λ a. after_round a done chosen (verdict_after done)
+      (rounds_from known ask (ask.rounds - suc done) (done + 1))) e
+      ∙ ap (λ t. settled_or t chosen later.rows (verdict_after done)
+      (rounds_from known ask (ask.rounds - suc done) (done + 1))) same
+  only (stops {chosen} d) = let none : ask.rounds - ask.rounds ≡ 0 = omega arith in goes_on d (omega arith)
+      ∙ ap (λ k. rounds_from known ask k ask.rounds chosen) none

@@ -27,20 +27,27 @@ module _ (known : Known) (ask : Ask) (chosen : List ChoiceRow) (rows : List Requ
   rows_in (Needs keys) = []
   rows_in (Requests asked) = asked
 
-  walk_rows : walk_of known ask chosen ≡ Requests rows → request_rows ask.roots versions (last_ones known ask chosen) ≡ rows
+  walk_rows : walk_of known ask chosen ≡ Requests rows → request_rows ask.roots versions (last_ones known ask chosen)
+      ≡ rows
   walk_rows h = by (is_open (reached_of known ask chosen)) h
     where
-      by : (t : Bool) → walk_by t ask.roots (reached_of known ask chosen) ≡ Requests rows → request_rows ask.roots versions (last_ones known ask chosen) ≡ rows
+      by : (t : Bool) → walk_by t ask.roots (reached_of known ask chosen) ≡ Requests rows
+          → request_rows ask.roots versions (last_ones known ask chosen) ≡ rows
       by true e = absurd (cc)
       by false e = ap rows_in e
 
-  pub walk_requests : (m : Module) → walk_of known ask chosen ≡ Requests rows → row_for rows m ≡ requests_at known ask chosen m
-  walk_requests m h = ap (λ z. row_for z m) (sym (walk_rows h)) ∙ row_asked ask.roots versions (last_ones known ask chosen) m
+  pub walk_requests : (m : Module) → walk_of known ask chosen ≡ Requests rows
+      → row_for rows m ≡ requests_at known ask chosen m
+  walk_requests m h = ap (λ z. row_for z m) (sym (walk_rows h))
+      ∙ row_asked ask.roots versions (last_ones known ask chosen) m
 
-  pub walk_ends : (m : Module) → walk_of known ask chosen ≡ Requests rows → has (rows_modules rows) m ≡ list_any (asks_for m) (last_ones known ask chosen)
-  walk_ends m h = ap (λ z. has (rows_modules z) m) (sym (walk_rows h)) ∙ row_ends ask.roots versions (last_ones known ask chosen) m
+  pub walk_ends : (m : Module) → walk_of known ask chosen ≡ Requests rows
+      → has (rows_modules rows) m ≡ list_any (asks_for m) (last_ones known ask chosen)
+  walk_ends m h = ap (λ z. has (rows_modules z) m) (sym (walk_rows h))
+      ∙ row_ends ask.roots versions (last_ones known ask chosen) m
 
   pub walk_rises : walk_of known ask chosen ≡ Requests rows → Rises (rows_modules rows)
   walk_rises h =
       subst (λ z. Rises (rows_modules z)) (walk_rows h)
-      (subst (λ z. Rises z) (sym (keys_rows (asked_by ask.roots versions (last_ones known ask chosen)))) (asked_rises ask.roots versions [] (last_ones known ask chosen) tt))
+      (subst (λ z. Rises z) (sym (keys_rows (asked_by ask.roots versions (last_ones known ask chosen))))
+      (asked_rises ask.roots versions [] (last_ones known ask chosen) tt))

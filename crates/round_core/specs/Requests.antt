@@ -41,7 +41,8 @@ requests_in asked m = unwrap_or (lookup (is_at (module_cmp m)) asked) []
 
 -- one request more for a module, unless it is there
 abbrev pub with_request : Asked → Module → Request → Asked
-with_request asked m r = insert_entry module_cmp (remove_entry (is_at (module_cmp m)) asked) m (once request_eq (requests_in asked m) r)
+with_request asked m r =
+    insert_entry module_cmp (remove_entry (is_at (module_cmp m)) asked) m (once request_eq (requests_in asked m) r)
 
 abbrev pub with_edge : List Coord → Versions → Asked → RowEdge → Asked
 with_edge roots versions asked e = with_request asked (target_of e) (request_of roots versions e)
@@ -56,13 +57,15 @@ request_row asked = record { «module» = asked.0; requests = asked.1 }
 abbrev pub request_rows : List Coord → Versions → List RowEdge → List RequestRow
 request_rows roots versions last = map request_row (asked_by roots versions last)
 
--- The same, module by module: the requests for a module are the distinct pairs of text and requester of the edges that end there, in the order of the edges.
+-- The same, module by module: the requests for a module are the distinct pairs of text and requester of the edges that
+-- end there, in the order of the edges.
 
 abbrev pub asks_for : Module → RowEdge → Bool
 asks_for m e = module_eq m (target_of e)
 
 abbrev pub requests_for : List Coord → Versions → List RowEdge → Module → List Request
-requests_for roots versions last m = fold (once request_eq) [] (map (request_of roots versions) (filter (asks_for m) last))
+requests_for roots versions last m =
+    fold (once request_eq) [] (map (request_of roots versions) (filter (asks_for m) last))
 
 -- what is asked of a module at these choices
 abbrev pub requests_at : Known → Ask → List ChoiceRow → Module → List Request

@@ -11,6 +11,8 @@ mod numbers;
 mod one_round;
 mod projects;
 mod reach;
+mod request_key;
+mod request_list;
 mod requests;
 mod rounds;
 mod row_key;
