@@ -257,10 +257,10 @@ module _ (found : (known : Known) (repos : ℕ) (c : Coord) (project : Effective
   module _ (no_clash : clashes_in asked chosen ≡ []) (no_fault : map fault_row (faults_in reached) ≡ []) where
     -- a choice whose project is built
     record IsBuiltRow (row : ChoiceRow) : Type 0 where
-      coord : Coord
-      project : Effective
-      build : effective_of known ask.repos coord ≡ builds.Built project
-      is : project_in known ask.repos row ≡ Some (record { coord = coord; build = builds.Built project })
+      pub coord : Coord
+      pub project : Effective
+      pub build : effective_of known ask.repos coord ≡ builds.Built project
+      pub is : project_in known ask.repos row ≡ Some (record { coord = coord; build = builds.Built project })
 
     no_fault_in : (project : ChosenProject) → In (Some project) (projects_in known ask.repos chosen)
         → IsFault project.build → ⊥
@@ -369,12 +369,17 @@ module _ (found : (known : Known) (repos : ℕ) (c : Coord) (project : Effective
     pub settled_well : (round : ℕ) → IsSettlement (settled_in ask.roots round reached)
     settled_well round =
         record {
-          edges = all_from_in (edges_in ask.roots (steer ask.roots reached) reached) each_edge;
-          coordinates = all_from_in (nodes_in reached) (λ node m. (node_found node m).0);
+          edges = all_from_in {P =
+              λ (edge : Edge). IsEdgeOf (length (nodes_in reached)) edge}
+              (edges_in ask.roots (steer ask.roots reached) reached) each_edge;
+          coordinates =
+              all_from_in {P =
+              λ (node : Node). is_plain_coord node.coord ≡ true} (nodes_in reached) (λ node m. (node_found node m).0);
         }
 
     pub settled_listed : (round : ℕ) → HasRepositories ask.repos (settled_in ask.roots round reached)
-    settled_listed round = all_from_in (nodes_in reached) (λ node m. (node_found node m).1)
+    settled_listed round =
+        all_from_in {P = λ (node : Node). node.repo < ask.repos} (nodes_in reached) (λ node m. (node_found node m).1)
 
   if_settled : (round : ℕ) (P : Outcome → Type 0)
       → (clashes_in asked chosen ≡ [] → map fault_row (faults_in reached) ≡ [] → P (settled_in ask.roots round reached))
