@@ -13,7 +13,7 @@ use Rattle.live_walk.specs.Numbers.{AreDistinct, AreHops, Step, bare_graph, foll
 use Rattle.live_walk.specs.Paths.{is_followed, live_paths}
 use Rattle.live_walk.specs.Walks.{State, after_levels, after_roots, is_let, walked}
 use Rattle.live_walk.specs.declared.hop.Hop.{Hop}
-use Rattle.live_walk.proofs.Inner.{less_inside, lets_inner, more_inside}
+use Rattle.live_walk.proofs.Inside.{less_inside, lets_inner, more_inside}
 use Rattle.live_walk.proofs.Members.{Mapped, from_map, map_same}
 use Rattle.live_walk.proofs.Modules.{SetLaws, covers, lawful}
 use Rattle.live_walk.proofs.Rows.{both_rows, by_rows, no_rows, row_listed}

@@ -1,7 +1,6 @@
 -- A set of keys has one for each request.
 use Rattle.std.proofs.Common.{◌≡◌, ℕ, Bool, true, false, cond, not, ◌||◌, ◌&&◌, List, [], ◌∷◌, ◌++◌, refl, sym, ◌∙◌, ap, subst, eqb-true, eq-eqb, rules}
 use Rattle.std.specs.Prelude.{◌==◌, nat_eq}
-use Rattle.std.specs.BTreeMap.{is_at}
 use Rattle.std.specs.BTreeSet.{BTreeSet, Updates, contains}
 use Rattle.std.specs.Cmp.Rules.{comparing}
 use Rattle.std.specs.List.{list_any}
@@ -84,9 +83,3 @@ keys_more requests r before after has updated q =
     by : (same there : Bool) → cond same true there ≡ (there || (same || false))
     by true there = sym (or-true there)
     by false there = sym (or-false there)
-
--- the keys of a set that has not changed
-pub keys_stay : (requests : List Request) (before after : BTreeSet RequestKey) → HasKeys before requests
-    → after.keys ≡ before.keys → HasKeys after requests
-keys_stay requests before after has same q =
-    ap (λ ks. list_any (λ k. is_at (request_key_cmp (key_of_request q)) k) ks) same ∙ has q

@@ -82,14 +82,14 @@ some_map f (x ∷ xs) h = tt
 
 -- where all lists together are empty, each of them is
 each_empty : {A B : Type 0} (f : A → List B) (xs : List A) (x : A) → flat_map f xs ≡ [] → In x xs → AreSome (f x) → ⊥
-each_empty f xs x e m h = by (f x) refl h
+each_empty {B = B} f xs x e m h = by (f x) refl h
   where
     by : (ys : List B) → f x ≡ ys → AreSome ys → ⊥
     by [] q k = k
     by (y ∷ ys) q k = elim (subst (λ z. In y z) e (in_flat_map f m (subst (λ z. In y z) (sym q) here))) [ ]
 
-all_from_in : {A : Type 0} {P : A → Type 0} (xs : List A) → ((x : A) → In x xs → P x) → All P xs
-all_from_in xs each i d h = each (get_or xs i d) (in_get xs i d h)
+all_from_in : {A : Type 0} (P : A → Type 0) (xs : List A) → ((x : A) → In x xs → P x) → All P xs
+all_from_in P xs each i d h = each (get_or xs i d) (in_get xs i d h)
 
 -- ---- projects that are not there
 
@@ -369,17 +369,15 @@ module _ (found : (known : Known) (repos : ℕ) (c : Coord) (project : Effective
     pub settled_well : (round : ℕ) → IsSettlement (settled_in ask.roots round reached)
     settled_well round =
         record {
-          edges = all_from_in {P =
-              λ (edge : Edge). IsEdgeOf (length (nodes_in reached)) edge}
+          edges = all_from_in (λ (edge : Edge). IsEdgeOf (length (nodes_in reached)) edge)
               (edges_in ask.roots (steer ask.roots reached) reached) each_edge;
           coordinates =
-              all_from_in {P =
-              λ (node : Node). is_plain_coord node.coord ≡ true} (nodes_in reached) (λ node m. (node_found node m).0);
+              all_from_in (λ (node : Node). is_plain_coord node.coord ≡ true) (nodes_in reached) (λ node m. (node_found node m).0);
         }
 
     pub settled_listed : (round : ℕ) → HasRepositories ask.repos (settled_in ask.roots round reached)
     settled_listed round =
-        all_from_in {P = λ (node : Node). node.repo < ask.repos} (nodes_in reached) (λ node m. (node_found node m).1)
+        all_from_in (λ (node : Node). node.repo < ask.repos) (nodes_in reached) (λ node m. (node_found node m).1)
 
   if_settled : (round : ℕ) (P : Outcome → Type 0)
       → (clashes_in asked chosen ≡ [] → map fault_row (faults_in reached) ≡ [] → P (settled_in ask.roots round reached))

@@ -48,22 +48,22 @@ impl RequestList {
     pub fn into_list(self) -> List<Request>
         ensures { result ≡ self }
     {
-        let RequestList { requests, seen: _ } = self;
-        requests
+        self.requests
     }
 
     /// With one request more at the end, unless it is there.
     pub fn with(self, alloc: Global, request: Request) -> Result<RequestList, NoMemory>
         ensures { IfOk result (λ made. made ≡ once request_eq self request) }
     {
+        let key = key_of(alloc, &request.text, &request.from)?;
+        if self.seen.contains(&key) {
+            return Ok(self);
+        }
         let RequestList {
             mut requests,
             mut seen,
         } = self;
-        let added = seen.insert(key_of(alloc, &request.text, &request.from)?)?;
-        if !added {
-            return Ok(RequestList { requests, seen });
-        }
+        seen.insert(key)?;
         requests.push(request)?;
         Ok(RequestList { requests, seen })
     }

@@ -3,7 +3,7 @@ use Rattle.std.specs.Prelude.{All}
 use Rattle.exclusion_sets.specs.Exclusions.{is_within}
 use Rattle.live_walk.specs.Numbers.{AreHops, bare_graph, inner_out, lets_of, out_graph, root_step, sets_of, state_of, table_of}
 use Rattle.live_walk.specs.Walks.{after_levels, after_roots}
-use Rattle.live_walk.proofs.Inner.{hops_inside, rows_inside}
+use Rattle.live_walk.proofs.Inside.{hops_inside, rows_inside}
 use Rattle.live_walk.proofs.Modules.{SetLaws}
 use Rattle.live_walk.proofs.States.{if_ok}
 use Rattle.live_walk.proofs.Whole.{whole}

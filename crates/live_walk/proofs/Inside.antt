@@ -1,6 +1,6 @@
 -- Sets need be put only to modules where paths can go on.
 use Rattle.std.specs.Prelude.{◌≡◌, ℕ, zero, suc, ◌<◌, Bool, true, false, cond, not, ◌==◌, List, [], ◌∷◌, All, filter, get_or, length, map}
-use Rattle.std.proofs.Common.{refl, sym, ◌∙◌, ap, subst, arith}
+use Rattle.std.proofs.Common.{refl, sym, ◌∙◌, ap, subst, arith, eqb-true}
 use Rattle.res_base.specs.Names.{module_eq}
 use Rattle.res_base.specs.declared.coord.Module.{Module}
 use Rattle.exclusion_sets.specs.declared.excl_set.ExclSet.{ExclSet}
@@ -62,13 +62,13 @@ module _ {K E S : Type 0} (g : Graph K E S) (inner : K → List E) where
 
 -- ---- lists
 
-from_all : {A : Type 0} {P : A → Type 0} (xs : List A) → All P xs → (x : A) → In x xs → P x
-from_all [] all x h = elim h [ ]
-from_all (y ∷ xs) all x here = all 0 y (omega arith)
-from_all (y ∷ xs) all x (there h) = from_all xs (λ i d l. all (suc i) d (omega (arith, l))) x h
+from_all : {A : Type 0} (P : A → Type 0) (xs : List A) → All P xs → (x : A) → In x xs → P x
+from_all P [] all x h = elim h [ ]
+from_all P (y ∷ xs) all x here = all 0 y (omega arith)
+from_all P (y ∷ xs) all x (there h) = from_all P xs (λ i d l. all (suc i) d (omega (arith, l))) x h
 
-to_all : {A : Type 0} {P : A → Type 0} (xs : List A) → ((x : A) → In x xs → P x) → All P xs
-to_all xs each i d l = each (get_or xs i d) (in_get xs i d l)
+to_all : {A : Type 0} (P : A → Type 0) (xs : List A) → ((x : A) → In x xs → P x) → All P xs
+to_all P xs each i d l = each (get_or xs i d) (in_get xs i d l)
 
 length-map : {A B : Type 0} (f : A → B) (xs : List A) → length (map f xs) ≡ length xs
 length-map f [] = refl
@@ -90,7 +90,7 @@ row_in : {A : Type 0} (modules : List Module) (rows : List (List A)) (m : Module
     → (row : List A) × In row rows × In x row
 row_in [] rows m x h = elim h [ ]
 row_in (k ∷ modules) [] m x h = elim h [ ]
-row_in (k ∷ modules) (row ∷ rows) m x h = by (row_in modules rows m x) (module_eq m k) h
+row_in {A = A} (k ∷ modules) (row ∷ rows) m x h = by (row_in modules rows m x) (module_eq m k) h
   where
     by : (In x (row_at modules rows m) → (r : List A) × In r rows × In x r) → (t : Bool)
         → In x (cond t row (row_at modules rows m)) → (r : List A) × In r (row ∷ rows) × In x r
@@ -106,7 +106,11 @@ at_place (hops ∷ out) (suc place) = at_place out place
 
 some_hops : (hops : List Hop) (f : Hop → Step) (d : Step) → In d (map f hops) → not (length hops == 0) ≡ true
 some_hops [] f d h = elim h [ ]
-some_hops (hop ∷ hops) f d h = refl
+some_hops (hop ∷ hops) f d h = by (length (hop ∷ hops) == 0) refl
+  where
+    by : (t : Bool) → (length (hop ∷ hops) == 0) ≡ t → not t ≡ true
+    by true e = absurd (let q : length (hop ∷ hops) ≡ 0 = eqb-true (length (hop ∷ hops)) 0 e in omega (arith, q))
+    by false e = refl
 
 module _ (modules : List Module) (out : List (List Hop)) where
   pub rows_inside : length out ≡ length modules → length (inner_out out) ≡ length modules
@@ -114,16 +118,15 @@ module _ (modules : List Module) (out : List (List Hop)) where
 
   pub hops_inside : (n : ℕ) → All (λ hops. AreHops n hops) out → All (λ hops. AreHops n hops) (inner_out out)
   hops_inside n fits =
-      to_all {P = λ hops. AreHops n hops} (inner_out out)
+      to_all (λ hops. AreHops n hops) (inner_out out)
       (λ row i.
       let m : Mapped (inner_hops out) row out = from_map (inner_hops out) row out i in
       subst (λ z. AreHops n z) (sym m.is)
-      (to_all {P = λ (hop : Hop). hop.to < n} (inner_hops out m.one)
+      (to_all (λ (hop : Hop). hop.to < n) (inner_hops out m.one)
       (λ hop j.
       let p : Passed (λ (h : Hop). goes_on out h.to) hop m.one =
       from_filter (λ (h : Hop). goes_on out h.to) hop m.one j in
-      from_all {P =
-      λ (h : Hop). h.to < n} m.one (from_all {P = λ hops. AreHops n hops} out fits m.one m.member) hop p.member)))
+      from_all (λ (h : Hop). h.to < n) m.one (from_all (λ hops. AreHops n hops) out fits m.one m.member) hop p.member)))
 
   row_inside : (m : Module) → row_at modules (inner_out out) m ≡ inner_hops out (row_at modules out m)
   row_inside m = row_map (inner_hops out) refl modules out m
@@ -146,9 +149,7 @@ module _ (modules : List Module) (out : List (List Hop)) where
         from_map (hop_step modules) e (row_at modules out k) h in
         let r : (row : List Hop) × In row out × In m.one row = row_in modules out k m.one m.member in
         let to : m.one.to < length modules =
-        from_all {P =
-        λ (hop : Hop). hop.to < length modules} r.0 (from_all {P =
-        λ hops. AreHops (length modules) hops} out fits r.0 r.1) m.one r.2 in
+        from_all (λ (hop : Hop). hop.to < length modules) r.0 (from_all (λ hops. AreHops (length modules) hops) out fits r.0 r.1) m.one r.2 in
         let ends : row_at modules out (module_at modules m.one.to) ≡ hops_at out m.one.to =
         row_here modules out m.one.to (sym rows) apart (omega (arith, rows, to)) ∙ sym (at_place out m.one.to) in
         let there_is : In d (map (hop_step modules) (hops_at out m.one.to)) =
