@@ -149,7 +149,8 @@ module _ (modules : List Module) (out : List (List Hop)) where
         from_map (hop_step modules) e (row_at modules out k) h in
         let r : (row : List Hop) × In row out × In m.one row = row_in modules out k m.one m.member in
         let to : m.one.to < length modules =
-        from_all (λ (hop : Hop). hop.to < length modules) r.0 (from_all (λ hops. AreHops (length modules) hops) out fits r.0 r.1) m.one r.2 in
+        from_all (λ (hop : Hop). hop.to < length modules) r.0
+        (from_all (λ hops. AreHops (length modules) hops) out fits r.0 r.1) m.one r.2 in
         let ends : row_at modules out (module_at modules m.one.to) ≡ hops_at out m.one.to =
         row_here modules out m.one.to (sym rows) apart (omega (arith, rows, to)) ∙ sym (at_place out m.one.to) in
         let there_is : In d (map (hop_step modules) (hops_at out m.one.to)) =

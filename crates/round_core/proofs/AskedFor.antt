@@ -26,6 +26,15 @@ use Rattle.round_core.proofs.Orders.{module_cmp_eq}
 at_itself : (m : Module) → is_at (module_cmp m) m ≡ true
 at_itself m = module_cmp_eq m m ∙ module_itself m
 
+not_at : (k m : Module) → module_eq m k ≡ false → is_at (module_cmp k) m ≡ false
+not_at k m apart = module_cmp_eq k m ∙ same_either_way k m ∙ apart
+
+same_end : (k m : Module) → module_eq m k ≡ false → (n : Module) → is_eq (module_cmp m n) ≡ true
+    → is_at (module_cmp k) n ≡ false
+same_end k m apart n h =
+    let q : m ≡ n = module_same m n (sym (module_cmp_eq m n) ∙ h) in
+    subst (λ z. is_at (module_cmp k) z ≡ false) q (not_at k m apart)
+
 module _ {X : Type 0} where
   inserted : (m : Module) (v : X) (entries : List (Module × X))
       → lookup (is_at (module_cmp m)) (insert_entry module_cmp entries m v) ≡ Some v
@@ -44,16 +53,9 @@ module _ {X : Type 0} where
           ∙ later
 
   module _ (k m : Module) (apart : module_eq m k ≡ false) where
-    not_at : is_at (module_cmp k) m ≡ false
-    not_at = module_cmp_eq k m ∙ same_either_way k m ∙ apart
-
-    same_end : (n : Module) → is_eq (module_cmp m n) ≡ true → is_at (module_cmp k) n ≡ false
-    same_end n h = let q : m ≡ n =
-        module_same m n (sym (module_cmp_eq m n) ∙ h) in subst (λ z. is_at (module_cmp k) z ≡ false) q not_at
-
     not_inserted : (v : X) (entries : List (Module × X))
         → lookup (is_at (module_cmp k)) (insert_entry module_cmp entries m v) ≡ lookup (is_at (module_cmp k)) entries
-    not_inserted v [] = ap (λ t. cond t (Some v) None) not_at
+    not_inserted v [] = ap (λ t. cond t (Some v) None) (not_at k m apart)
     not_inserted v (e ∷ entries) = by (not_inserted v entries) (module_cmp m e.0) refl
       where
         by : lookup (is_at (module_cmp k)) (insert_entry module_cmp entries m v) ≡ lookup (is_at (module_cmp k)) entries
@@ -61,9 +63,9 @@ module _ {X : Type 0} where
             → lookup (is_at (module_cmp k))
             (match_ordering o ((m, v) ∷ e ∷ entries) ((e.0, v) ∷ entries) (e ∷ insert_entry module_cmp entries m v))
             ≡ lookup (is_at (module_cmp k)) (e ∷ entries)
-        by later Less h = ap (λ t. cond t (Some v) (lookup (is_at (module_cmp k)) (e ∷ entries))) not_at
+        by later Less h = ap (λ t. cond t (Some v) (lookup (is_at (module_cmp k)) (e ∷ entries))) (not_at k m apart)
         by later Equal h =
-            let off : is_at (module_cmp k) e.0 ≡ false = same_end e.0 (ap is_eq h) in
+            let off : is_at (module_cmp k) e.0 ≡ false = same_end k m apart e.0 (ap is_eq h) in
             ap (λ t. cond t (Some v) (lookup (is_at (module_cmp k)) entries)) off
             ∙ sym (ap (λ t. cond t (Some e.1) (lookup (is_at (module_cmp k)) entries)) off)
         by later Greater h = ap (λ o. cond (is_at (module_cmp k) e.0) (Some e.1) o) later
@@ -78,7 +80,8 @@ module _ {X : Type 0} where
             ≡ lookup (is_at (module_cmp k)) entries → (t : Bool) → is_at (module_cmp m) e.0 ≡ t
             → lookup (is_at (module_cmp k)) (cond t entries (e ∷ remove_entry (is_at (module_cmp m)) entries))
             ≡ lookup (is_at (module_cmp k)) (e ∷ entries)
-        by later true h = sym (ap (λ t. cond t (Some e.1) (lookup (is_at (module_cmp k)) entries)) (same_end e.0 h))
+        by later true h =
+            sym (ap (λ t. cond t (Some e.1) (lookup (is_at (module_cmp k)) entries)) (same_end k m apart e.0 h))
         by later false h = ap (λ o. cond (is_at (module_cmp k) e.0) (Some e.1) o) later
 
 -- ---- one edge more

@@ -372,7 +372,8 @@ module _ (found : (known : Known) (repos : ℕ) (c : Coord) (project : Effective
           edges = all_from_in (λ (edge : Edge). IsEdgeOf (length (nodes_in reached)) edge)
               (edges_in ask.roots (steer ask.roots reached) reached) each_edge;
           coordinates =
-              all_from_in (λ (node : Node). is_plain_coord node.coord ≡ true) (nodes_in reached) (λ node m. (node_found node m).0);
+              all_from_in (λ (node : Node). is_plain_coord node.coord
+              ≡ true) (nodes_in reached) (λ node m. (node_found node m).0);
         }
 
     pub settled_listed : (round : ℕ) → HasRepositories ask.repos (settled_in ask.roots round reached)
