@@ -145,8 +145,10 @@ place_below names m h = by (number_in names m) refl (some_place (module_eq m) 0 
   where
     by : (found : Option ℕ) → number_in names m ≡ found → IsSome found → unwrap_or found 0 < length names
     by None e s = absurd (cc)
-    by (Some place) e s = let l : place < 0 + length names =
-        place_in_range (module_eq m) 0 names place e in omega (arith, l)
+    by (Some place) e s =
+        let l : place < 0 + length names = place_in_range (module_eq m) 0 names place e in
+        let k : place < length names = omega (arith, l) in
+        k
 
 in_has : (m : Module) (names : List Module) → In m names → has names m ≡ true
 in_has m names i = any_from_in (module_eq m) i (module_itself m)

@@ -23,7 +23,7 @@ module _ (known : Known) (ask : Ask) (chosen : List ChoiceRow) (rows : List Requ
   abbrev versions : Versions
   versions = steer ask.roots (reached_of known ask chosen)
 
-  rows_in : Walk → List RequestRow
+  abbrev rows_in : Walk → List RequestRow
   rows_in (Needs keys) = []
   rows_in (Requests asked) = asked
 

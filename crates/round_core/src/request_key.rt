@@ -1,7 +1,7 @@
 //! Keys of requests.
 ghost use Rattle.std.specs.Prelude.{◌≡◌, [], IfOk};
 ghost use Rattle.std.proofs.Common.{rules};
-ghost use Rattle.std.specs.Cmp.{partial_order_from_own_ties};
+ghost use Rattle.std.specs.Cmp.{partial_equiv_from_equiv, partial_order_from_own_ties};
 ghost use Rattle.std.specs.Cmp.Rules.{comparing};
 ghost use Rattle.std.specs.Ordering.{as_partial_cmp};
 ghost use Rattle.res_base.specs.Builders.{module_of};
@@ -26,7 +26,7 @@ pub(crate) struct RequestKey {
 impl PartialEq for RequestKey {
     ghost eq = { request_key_eq };
 
-    ghost laws = { Prim.search (comparing, rules) };
+    ghost laws = { partial_equiv_from_equiv (Prim.search (comparing, rules) depth 8) };
 
     fn eq(&self, other: &RequestKey) -> bool {
         self.kind == other.kind
@@ -38,13 +38,13 @@ impl PartialEq for RequestKey {
 }
 
 impl Eq for RequestKey {
-    ghost laws = { Prim.search (comparing, rules) };
+    ghost laws = { Prim.search (comparing, rules) depth 8 };
 }
 
 impl PartialOrd for RequestKey {
     ghost partial_cmp = { as_partial_cmp request_key_cmp };
 
-    ghost laws = { partial_order_from_own_ties (Prim.search (comparing, rules)) (Prim.search (comparing, rules)) };
+    ghost laws = { partial_order_from_own_ties (Prim.search (comparing, rules) depth 8) (Prim.search (comparing, rules)) };
 
     fn partial_cmp(&self, other: &RequestKey) -> Option<Ordering> {
         Some(self.cmp(other))
@@ -54,7 +54,7 @@ impl PartialOrd for RequestKey {
 impl Ord for RequestKey {
     ghost cmp = { request_key_cmp };
 
-    ghost total = { Prim.search (comparing, rules) };
+    ghost total = { Prim.search (comparing, rules) depth 8 };
 
     ghost matches_partial_cmp = { Prim.search (comparing, rules) };
 
