@@ -11,7 +11,7 @@ pub length_first : (has_name : Bool) (said : LengthSaid) (value : Bytes) (more :
 length_first true said value more = refl
 length_first false said value more = refl
 
-pub coding_first : (has_name : Bool) (coding : TransferCoding) (value : Bytes) (more : List Bytes)
-    → codings_from coding (value_if has_name value ++ more) ≡ codings_from (coding_if has_name coding value) more
-coding_first true coding value more = refl
-coding_first false coding value more = refl
+pub coding_first : (has_name : Bool) (sofar : TransferCoding) (value : Bytes) (more : List Bytes)
+    → codings_from sofar (value_if has_name value ++ more) ≡ codings_from (coding_if has_name sofar value) more
+coding_first true sofar value more = refl
+coding_first false sofar value more = refl

@@ -1,5 +1,6 @@
 -- A reply is refused for its length only where as much content as the limit has come.
-use Rattle.std.proofs.Common.{◌≡◌, ℕ, ◌+◌, Bool, true, false, [], ◌∷◌, length, Option, Some, None, Result, Ok, Err, refl, sym, ap, ◌∙◌, subst, arith, if◌then◌else◌, ◌==◌}
+use Rattle.std.proofs.Common.{◌≡◌, ℕ, ◌+◌, Bool, true, false, [], ◌∷◌, length, Option, Some, None, Result, Ok, Err, refl, sym, ap, ◌∙◌, subst, arith, if◌then◌else◌, ◌==◌, ◌*◌, nat_le, nat_lt, ◌&&◌, ◌||◌, List, codes}
+use Rattle.std.specs.Char.{is_ascii_hexdigit, digit_value}
 use Rattle.std.proofs.lemmas.Bool.{false≢true}
 use Rattle.http_wire.specs.declared.line_places.LinePlace.{LinePlace}
 use Rattle.http_wire.specs.declared.line_places.LinePlace.TheVariants.{LineStart}
@@ -13,13 +14,13 @@ use Rattle.http_wire.specs.declared.fields.TransferCoding.TheVariants.{NoCoding,
 use Rattle.http_wire.specs.declared.replies.Fed.{Fed}
 use Rattle.http_wire.specs.declared.replies.ReplyErr.{ReplyErr}
 use Rattle.http_wire.specs.declared.replies.ReplyErr.TheVariants.{BadHead, HeadTooLong, BadLength, BadChunk, Encoded, EndedEarly, BodyTooLong, NoMemory}
-use Rattle.http_wire.specs.LinePlaces.{next_line_place}
-use Rattle.http_wire.specs.BodyPlaces.{content_left, data_left, data_begun, within_line, after_size, trailer_place, after_extension, after_digit, if_byte, is_content, after_content, after_framing, fed_at}
+use Rattle.http_wire.specs.LinePlaces.{next_line_place, least_left}
+use Rattle.http_wire.specs.BodyPlaces.{content_left, data_left, data_begun, within_line, after_size, trailer_place, after_extension, after_digit, if_byte, is_content, after_content, after_framing, fed_at, closed_at}
 use Rattle.http_wire.specs.BodyBytes.{after_content_byte, after_byte, after_bytes, content_of}
 use Rattle.http_wire.specs.BodyStarts.{HeadData, body_place, place_by_fields}
-use Rattle.http_wire.specs.Codings.{place_by_coding}
-use Rattle.http_wire.specs.ContentLengths.{place_by_length}
-use Rattle.http_wire.specs.Fields.{Bytes}
+use Rattle.http_wire.specs.Codings.{place_by_coding, codings_from, is_encoded}
+use Rattle.http_wire.specs.ContentLengths.{place_by_length, lengths_from}
+use Rattle.http_wire.specs.Fields.{Bytes, field_values}
 use Rattle.http_wire.specs.Splits.{Split, in_head, no_head, behind_head, split_of}
 use Rattle.http_wire.specs.Outcomes.{Outcome, outcome_by, body_start, IsOutcome}
 use Rattle.http_wire.proofs.LawFacts.{body_room}
@@ -47,24 +48,24 @@ short_if true x y p q = p
 short_if false x y p q = q
 
 short_line : (read : ℕ) (place : BodyPlace) → Short place → Short (within_line read place)
-short_line read place p = short_if _ place (Refused BadChunk) p (λ h. h)
+short_line read place p = short_if (nat_le (read + 2) 65536) place (Refused BadChunk) p (λ h. h)
 
 short_size : (size read b : ℕ) → Short (after_size size read b)
 short_size size read b =
-    short_if _ (within_line read (ChunkSpace size read)) _ (short_line read (ChunkSpace size read) (λ h. h))
-    (short_if _ (within_line read (ChunkExtension size read)) _ (short_line read (ChunkExtension size read) (λ h. h))
-    (short_if _ (ChunkLineFeed size) (Refused BadChunk) (λ h. h) (λ h. h)))
+    short_if ((b == 32) || (b == 9)) (within_line read (ChunkSpace size read)) (if b == 59 then within_line read (ChunkExtension size read) else (if b == 13 then ChunkLineFeed size else Refused BadChunk)) (short_line read (ChunkSpace size read) (λ h. h))
+    (short_if (b == 59) (within_line read (ChunkExtension size read)) (if b == 13 then ChunkLineFeed size else Refused BadChunk) (short_line read (ChunkExtension size read) (λ h. h))
+    (short_if (b == 13) (ChunkLineFeed size) (Refused BadChunk) (λ h. h) (λ h. h)))
 
 short_extension : (size read b : ℕ) → Short (after_extension size read b)
 short_extension size read b =
-    short_if _ (ChunkLineFeed size) _ (λ h. h) (short_if _ (Refused BadChunk) _ (λ h. h) (short_line read (ChunkExtension size read) (λ h. h)))
+    short_if (b == 13) (ChunkLineFeed size) (if b == 10 then Refused BadChunk else within_line read (ChunkExtension size read)) (λ h. h) (short_if (b == 10) (Refused BadChunk) (within_line read (ChunkExtension size read)) (λ h. h) (short_line read (ChunkExtension size read) (λ h. h)))
 
 short_digit : (digits size b : ℕ) → Short (after_digit digits size b)
-short_digit digits size b = short_if _ (ChunkSize (digits + 1) _) _ (λ h. h) (short_if (digits == 0) (Refused BadChunk) _ (λ h. h) (short_size size (digits + 1) b))
+short_digit digits size b = short_if (nat_lt digits 16 && is_ascii_hexdigit b) (ChunkSize (digits + 1) (size * 16 + digit_value b)) (if digits == 0 then Refused BadChunk else after_size size (digits + 1) b) (λ h. h) (short_if (digits == 0) (Refused BadChunk) (after_size size (digits + 1) b) (λ h. h) (short_size size (digits + 1) b))
 
 short_trailer : (read : ℕ) (line : Option LinePlace) → Short (trailer_place read line)
 short_trailer read None = λ h. h
-short_trailer read (Some line) = short_if _ (Trailer line read) (Refused BadChunk) (λ h. h) (λ h. h)
+short_trailer read (Some line) = short_if (nat_le (read + least_left line) 65536) (Trailer line read) (Refused BadChunk) (λ h. h) (λ h. h)
 
 short_begun : (size : ℕ) → Short (data_begun size)
 short_begun size = short_if (size == 0) (Trailer LineStart 0) (ChunkData size) (λ h. h) (λ h. h)
@@ -141,14 +142,20 @@ short_length NoLength = λ h. h
 short_length (Exactly n) = short_left n
 short_length Invalid = λ h. h
 
-short_coding : (coding : TransferCoding) (place : BodyPlace) → Short place → Short (place_by_coding coding place)
+short_coding : (sofar : TransferCoding) (place : BodyPlace) → Short place → Short (place_by_coding sofar place)
 short_coding NoCoding place p = p
 short_coding Chunked place p = λ h. h
 short_coding Unsupported place p = λ h. h
 
+abbrev by_length : List (Bytes × Bytes) → BodyPlace
+by_length fields = place_by_length (lengths_from NoLength (field_values (codes "content-length") fields))
+
+abbrev framed : List (Bytes × Bytes) → BodyPlace
+framed fields = place_by_coding (codings_from NoCoding (field_values (codes "transfer-encoding") fields)) (by_length fields)
+
 start_full : (limit : ℕ) (seen : Option HeadData) → IsFull (body_start limit seen)
 start_full limit None = λ h. absurd h
-start_full limit (Some seen) = λ h. absurd (short_if (seen.status == 200) (place_by_fields seen.fields) Whole (short_if _ (Refused Encoded) _ (λ k. k) (short_coding _ _ (short_length _))) (λ k. k) h)
+start_full limit (Some seen) = λ h. absurd (short_if (seen.status == 200) (place_by_fields seen.fields) Whole (short_if (is_encoded (field_values (codes "content-encoding") seen.fields)) (Refused Encoded) (framed seen.fields) (λ k. k) (short_coding (codings_from NoCoding (field_values (codes "transfer-encoding") seen.fields)) (by_length seen.fields) (short_length (lengths_from NoLength (field_values (codes "content-length") seen.fields))))) (λ k. k) h)
 
 full_split : (limit : ℕ) (split : Split) (seen : Option HeadData) → IsLong (outcome_by limit split seen).fed → length (outcome_by limit split seen).content ≡ limit
 full_split limit (in_head line front) seen h = absurd h
@@ -160,6 +167,31 @@ full_split limit (behind_head front rest) (Some seen) h =
     let none = bytes_full (body_start limit (Some seen)) rest (start_full limit (Some seen)) h in
     omega (arith, none, body_room (body_start limit (Some seen)) rest)
 
-pub full_law : (limit : ℕ) (bytes : Bytes) (outcome : Outcome) → IsOutcome limit bytes outcome → outcome.fed ≡ Err BodyTooLong → length outcome.content ≡ limit
+-- the end of the connection is answered so only where that was answered before
+abbrev IsLongEnd : Result (Unit {0}) ReplyErr → Type 0
+IsLongEnd (Ok u) = ⊥
+IsLongEnd (Err e) = IsLongErr e
+
+closed_long : (place : BodyPlace) → IsLongEnd (closed_at place) → IsLong (fed_at place)
+closed_long UntilClose h = h
+closed_long (ContentLeft n) h = h
+closed_long (ChunkData n) h = h
+closed_long (ChunkSize digits size) h = h
+closed_long (ChunkSpace size n) h = h
+closed_long (ChunkExtension size n) h = h
+closed_long (ChunkLineFeed size) h = h
+closed_long DataReturn h = h
+closed_long DataLineFeed h = h
+closed_long (Trailer line n) h = h
+closed_long Whole h = h
+closed_long (Refused e) h = h
+
+closed_split : (limit : ℕ) (split : Split) (seen : Option HeadData) → IsLongEnd (outcome_by limit split seen).closed → IsLong (outcome_by limit split seen).fed
+closed_split limit (in_head line front) seen h = h
+closed_split limit no_head seen h = h
+closed_split limit (behind_head front rest) seen h = closed_long (after_bytes (body_start limit seen) rest).place h
+
+pub full_law : (limit : ℕ) (bytes : Bytes) (outcome : Outcome) → IsOutcome limit bytes outcome → outcome.closed ≡ Err BodyTooLong → length outcome.content ≡ limit
 full_law limit bytes outcome h e =
-    subst (λ k. IsLong k.fed → length k.content ≡ limit) (sym h.2) (full_split limit (split_of bytes) h.0) (subst IsLong (sym e) tt)
+    subst (λ k. IsLongEnd k.closed → length k.content ≡ limit) (sym h.2)
+    (λ long. full_split limit (split_of bytes) h.0 (closed_split limit (split_of bytes) h.0 long)) (subst IsLongEnd (sym e) tt)

@@ -1,11 +1,12 @@
 -- Laws of replies.
-use Rattle.std.proofs.Common.{◌≡◌, ℕ, ◌+◌, ◌-◌, ◌<◌, ◌≤◌, Bool, true, false, List, [], ◌∷◌, ◌++◌, length, length-append, Option, Some, None, IsSome, Result, Ok, Err, refl, sym, ap, ◌∙◌, subst, append-nil, arith, ◌==◌}
+use Rattle.std.proofs.Common.{◌≡◌, ◌≢◌, ℕ, ◌+◌, ◌-◌, ◌<◌, ◌≤◌, Bool, true, false, List, [], ◌∷◌, ◌++◌, length, length-append, Option, Some, None, IsSome, Result, Ok, Err, refl, sym, ap, ◌∙◌, subst, append-nil, arith, ◌==◌}
 use Rattle.std.proofs.lemmas.Bool.{false≢true, lt-ltb}
 use Rattle.std.proofs.lemmas.Bool.Decides.{nat_tests}
 use Rattle.http_wire.specs.declared.line_places.LinePlace.TheVariants.{Leading}
 use Rattle.http_wire.specs.declared.body_states.BodyState.{BodyState}
 use Rattle.http_wire.specs.declared.body_places.BodyPlace.{BodyPlace}
 use Rattle.http_wire.specs.declared.body_places.BodyPlace.TheVariants.{UntilClose, ContentLeft, ChunkData, ChunkSize, ChunkSpace, ChunkExtension, ChunkLineFeed, DataReturn, DataLineFeed, Trailer, Whole, Refused}
+use Rattle.http_wire.specs.declared.replies.ReplyErr.TheVariants.{BadHead}
 use Rattle.http_wire.specs.declared.reply_reader.ReplyReader.{ReplyReader}
 use Rattle.http_wire.specs.declared.replies.Head.{Head}
 use Rattle.http_wire.specs.BodyPlaces.{fed_at, closed_at, is_final, is_content}
@@ -15,7 +16,7 @@ use Rattle.http_wire.specs.Fields.{Bytes}
 use Rattle.http_wire.specs.Splits.{Split, in_head, no_head, behind_head, split_from, split_of}
 use Rattle.http_wire.specs.Outcomes.{Outcome, outcome_by, body_start, IsSeen, IsOutcome, IsFinal, IsFinalAnswer, closed_by, GoesOnTo}
 use Rattle.http_wire.specs.Readers.{IsShown, HasRead, shown_head}
-use Rattle.http_wire.proofs.Runs.{after-append, of-append, settled_after, settled_of}
+use Rattle.http_wire.proofs.Runs.{after-append, of-append, settled_after, settled_of, refused_of}
 use Rattle.http_wire.proofs.SplitFacts.{split-append, behind_by, none_by}
 use Rattle.http_wire.proofs.ReaderFacts.{final_place}
 
@@ -66,6 +67,16 @@ grows_law limit bytes rest outcome h t =
       more = on.2;
       goes_on = on.3 ∙ ap (λ k. k.content ++ on.2) (sym h.2);
     }
+
+-- before a head was read there is no content
+starts_split : (limit : ℕ) (split : Split) (seen : Option HeadData) → (outcome_by limit split seen).content ≢ [] → IsSome (outcome_by limit split seen).seen
+starts_split limit (in_head line front) seen some = absurd (some refl)
+starts_split limit no_head seen some = absurd (some refl)
+starts_split limit (behind_head front rest) None some = absurd (some (refused_of BadHead limit rest))
+starts_split limit (behind_head front rest) (Some seen) some = refl
+
+pub starts_law : (limit : ℕ) (bytes : Bytes) (outcome : Outcome) → IsOutcome limit bytes outcome → outcome.content ≢ [] → IsSome outcome.seen
+starts_law limit bytes outcome h = subst (λ k. k.content ≢ [] → IsSome k.seen) (sym h.2) (starts_split limit (split_of bytes) h.0)
 
 -- what was given and what is left of the limit make the limit
 byte_room : (body : BodyState) (b : ℕ) → length (content_byte body b) + (after_byte body b).room ≡ body.room

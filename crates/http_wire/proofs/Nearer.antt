@@ -1,5 +1,6 @@
 -- Each byte brings the end of a reply nearer.
-use Rattle.std.proofs.Common.{◌≡◌, ℕ, ◌<◌, ◌≤◌, ◌+◌, ◌-◌, ◌*◌, Bool, true, false, [], ◌∷◌, length, Option, Some, None, Result, Ok, Err, refl, sym, ap, ◌∙◌, subst, arith, if◌then◌else◌, ◌==◌, nat_le}
+use Rattle.std.proofs.Common.{◌≡◌, ℕ, ◌<◌, ◌≤◌, ◌+◌, ◌-◌, ◌*◌, Bool, true, false, [], ◌∷◌, length, Option, Some, None, Result, Ok, Err, refl, sym, ap, ◌∙◌, subst, arith, if◌then◌else◌, ◌==◌, nat_le, nat_lt, ◌&&◌, ◌||◌}
+use Rattle.std.specs.Char.{is_ascii_hexdigit, digit_value}
 use Rattle.std.proofs.lemmas.Bool.{and_parts, true≢false, lt-ltb}
 use Rattle.std.proofs.lemmas.Bool.Decides.{nat_tests}
 use Rattle.http_wire.specs.declared.line_places.LinePlace.{LinePlace}
@@ -43,19 +44,19 @@ within_lower read place n p =
 
 size_lower : (size read b n : ℕ) → (read + 2 ≤ 65536 → 65539 + (65537 - read) + 1 ≤ n) → 65539 ≤ n → Lower n (after_size size read b)
 size_lower size read b n p q =
-    lower_if _ (within_line read (ChunkSpace size read)) _ n (λ e. within_lower read (ChunkSpace size read) n (λ f h. p f))
-    (λ e. lower_if _ (within_line read (ChunkExtension size read)) _ n (λ f. within_lower read (ChunkExtension size read) n (λ g h. p g))
-    (λ f. lower_if _ (ChunkLineFeed size) (Refused BadChunk) n (λ g h. omega (arith, q)) (λ g. lower_refused BadChunk n)))
+    lower_if ((b == 32) || (b == 9)) (within_line read (ChunkSpace size read)) (if b == 59 then within_line read (ChunkExtension size read) else (if b == 13 then ChunkLineFeed size else Refused BadChunk)) n (λ e. within_lower read (ChunkSpace size read) n (λ f h. p f))
+    (λ e. lower_if (b == 59) (within_line read (ChunkExtension size read)) (if b == 13 then ChunkLineFeed size else Refused BadChunk) n (λ f. within_lower read (ChunkExtension size read) n (λ g h. p g))
+    (λ f. lower_if (b == 13) (ChunkLineFeed size) (Refused BadChunk) n (λ g h. omega (arith, q)) (λ g. lower_refused BadChunk n)))
 
 extension_lower : (size read b n : ℕ) → (read + 2 ≤ 65536 → 65539 + (65537 - read) + 1 ≤ n) → 65539 ≤ n → Lower n (after_extension size read b)
 extension_lower size read b n p q =
-    lower_if _ (ChunkLineFeed size) _ n (λ e h. omega (arith, q))
-    (λ e. lower_if _ (Refused BadChunk) _ n (λ f. lower_refused BadChunk n) (λ f. within_lower read (ChunkExtension size read) n (λ g h. p g)))
+    lower_if (b == 13) (ChunkLineFeed size) (if b == 10 then Refused BadChunk else within_line read (ChunkExtension size read)) n (λ e h. omega (arith, q))
+    (λ e. lower_if (b == 10) (Refused BadChunk) (within_line read (ChunkExtension size read)) n (λ f. lower_refused BadChunk n) (λ f. within_lower read (ChunkExtension size read) n (λ g h. p g)))
 
 digit_lower : (digits size b : ℕ) → Lower (131077 + (17 - digits)) (after_digit digits size b)
 digit_lower digits size b =
-    lower_if _ (ChunkSize (digits + 1) _) _ _ (λ e h. let few : digits < 16 = grind (arith, nat_tests, (and_parts _ _ e).0) in omega (arith, few))
-    (λ e. lower_if (digits == 0) (Refused BadChunk) _ _ (λ f. lower_refused BadChunk _) (λ f. size_lower size (digits + 1) b _ (λ g. omega (arith, g)) (omega arith)))
+    lower_if (nat_lt digits 16 && is_ascii_hexdigit b) (ChunkSize (digits + 1) (size * 16 + digit_value b)) (if digits == 0 then Refused BadChunk else after_size size (digits + 1) b) (131077 + (17 - digits)) (λ e h. let few : digits < 16 = grind (arith, nat_tests, (and_parts (nat_lt digits 16) (is_ascii_hexdigit b) e).0) in omega (arith, few))
+    (λ e. lower_if (digits == 0) (Refused BadChunk) (after_size size (digits + 1) b) (131077 + (17 - digits)) (λ f. lower_refused BadChunk (131077 + (17 - digits))) (λ f. size_lower size (digits + 1) b (131077 + (17 - digits)) (λ g. omega (arith, g)) (omega arith)))
 
 least_some : (line : LinePlace) → 1 ≤ least_left line
 least_some Leading = omega arith
@@ -67,8 +68,8 @@ least_some StartReturn = omega arith
 trailer_lower : (read : ℕ) (line : Option LinePlace) → Lower (65537 - read) (trailer_place (read + 1) line)
 trailer_lower read None = at_end (Ok Done) tt
 trailer_lower read (Some line) =
-    lower_if (nat_le (read + 1 + least_left line) 65536) (Trailer line (read + 1)) (Refused BadChunk) _
-    (λ e h. let short : read + 1 + least_left line ≤ 65536 = grind (arith, nat_tests, e) in omega (arith, short, least_some line)) (λ e. lower_refused BadChunk _)
+    lower_if (nat_le (read + 1 + least_left line) 65536) (Trailer line (read + 1)) (Refused BadChunk) (65537 - read)
+    (λ e h. let short : read + 1 + least_left line ≤ 65536 = grind (arith, nat_tests, e) in omega (arith, short, least_some line)) (λ e. lower_refused BadChunk (65537 - read))
 
 begun_lower : (size : ℕ) → Lower 65538 (data_begun size)
 begun_lower size = lower_if (size == 0) (Trailer LineStart 0) (ChunkData size) 65538 (λ e h. omega arith) (λ e h. omega arith)
@@ -81,8 +82,8 @@ framing_lower UntilClose b c = absurd (true≢false c)
 framing_lower (ContentLeft n) b c = absurd (true≢false c)
 framing_lower (ChunkData n) b c = absurd (true≢false c)
 framing_lower (ChunkSize digits size) b c = digit_lower digits size b
-framing_lower (ChunkSpace size n) b c = size_lower size (n + 1) b _ (λ f. omega (arith, f)) (omega arith)
-framing_lower (ChunkExtension size n) b c = extension_lower size (n + 1) b _ (λ f. omega (arith, f)) (omega arith)
+framing_lower (ChunkSpace size n) b c = size_lower size (n + 1) b (65539 + (65537 - n)) (λ f. omega (arith, f)) (omega arith)
+framing_lower (ChunkExtension size n) b c = extension_lower size (n + 1) b (65539 + (65537 - n)) (λ f. omega (arith, f)) (omega arith)
 framing_lower (ChunkLineFeed size) b c = byte_lower b 10 (data_begun size) 65538 (begun_lower size)
 framing_lower DataReturn b c = byte_lower b 13 DataLineFeed 131096 (λ h. omega arith)
 framing_lower DataLineFeed b c = byte_lower b 10 (ChunkSize 0 0) 131095 (λ h. omega arith)
@@ -129,17 +130,19 @@ was_more (Trailer line n) b h = refl
 was_more Whole b h = h
 was_more (Refused e) b h = h
 
+-- more may come behind a body, and so it might before, with more left
+abbrev Nears : BodyPlace → ℕ → BodyState → Type 0
+Nears place room body = fed_at body.place ≡ Ok More → (fed_at place ≡ Ok More) × (body_left body + 1 ≤ room * 300001 + framing_left place)
+
 byte_nearer : (place : BodyPlace) (room b : ℕ) → fed_at (after_byte (record { place = place; room = room }) b).place ≡ Ok More
     → (fed_at place ≡ Ok More) × (body_left (after_byte (record { place = place; room = room }) b) + 1 ≤ room * 300001 + framing_left place)
 byte_nearer place room b = by_test (is_content place) refl
   where
-    abbrev Nears : BodyState → Type 0
-    Nears body = fed_at body.place ≡ Ok More → (fed_at place ≡ Ok More) × (body_left body + 1 ≤ room * 300001 + framing_left place)
-    by_test : (t : Bool) → is_content place ≡ t → Nears (after_byte (record { place = place; room = room }) b)
+    by_test : (t : Bool) → is_content place ≡ t → Nears place room (after_byte (record { place = place; room = room }) b)
     by_test false e = rw e (λ h. (was_more place b h, omega (arith, framing_lower place b e h)))
     by_test true e = rw e (by_room (room == 0) refl)
       where
-        by_room : (z : Bool) → (room == 0) ≡ z → Nears (after_content_byte place room)
+        by_room : (z : Bool) → (room == 0) ≡ z → Nears place room (after_content_byte place room)
         by_room true z = rw z (λ h. at_end (Err BodyTooLong) tt h)
         by_room false z = rw z (λ h. content_lower place room e (grind (arith, nat_tests, z)) h)
 

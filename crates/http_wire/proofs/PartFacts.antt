@@ -1,5 +1,5 @@
 -- The same bytes say one thing; and what stands appended where memory was wanting.
-use Rattle.std.proofs.Common.{◌≡◌, ◌≤◌, ℕ, List, [], ◌∷◌, ◌++◌, length, length-append, Option, Some, None, refl, sym, ap, ◌∙◌, subst, append_assoc, append-nil, arith, Err}
+use Rattle.std.proofs.Common.{◌≡◌, ◌≤◌, ℕ, List, [], ◌∷◌, ◌++◌, length, length-append, Option, Some, None, refl, sym, ap, ◌∙◌, subst, append_assoc, append-nil, arith, Result, Ok, Err, OnErr}
 use Rattle.http_wire.specs.declared.line_places.LinePlace.TheVariants.{Leading}
 use Rattle.http_wire.specs.declared.body_states.BodyState.{BodyState}
 use Rattle.http_wire.specs.declared.reply_reader.Phase.TheVariants.{InBody}
@@ -9,11 +9,15 @@ use Rattle.http_wire.specs.BodyStarts.{HeadData}
 use Rattle.http_wire.specs.Fields.{Bytes}
 use Rattle.http_wire.specs.Splits.{Split, in_head, no_head, behind_head, split_from, split_of}
 use Rattle.http_wire.specs.Outcomes.{Outcome, outcome_by, body_start, IsSeen, IsOutcome}
-use Rattle.http_wire.specs.Readers.{HasRead, Reads, GivesPart}
+use Rattle.http_wire.specs.Readers.{HasRead, Reads, GivesPart, GivesParts}
 use Rattle.http_wire.proofs.HeadFacts.{head_unique}
 use Rattle.http_wire.proofs.Runs.{of-append}
 use Rattle.http_wire.proofs.SplitFacts.{split-append, behind_by}
 use Rattle.http_wire.proofs.ReaderFacts.{behind_more, in_body}
+
+pub parts_err : {T E : Type 0} (old : ReplyReader) (piece into_old into_new : Bytes) (result : Result T E) → GivesParts old piece into_old into_new → OnErr result (GivesParts old piece into_old into_new)
+parts_err old piece into_old into_new (Ok x) p = tt
+parts_err old piece into_old into_new (Err e) p = p
 
 outcome_unique : (limit : ℕ) (split : Split) (one two : Option HeadData) → IsSeen split one → IsSeen split two → outcome_by limit split one ≡ outcome_by limit split two
 outcome_unique limit (in_head line front) one two a b = refl

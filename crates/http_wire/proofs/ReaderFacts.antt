@@ -22,7 +22,7 @@ use Rattle.http_wire.specs.Heads.{IsHeadOf}
 use Rattle.http_wire.specs.Splits.{Split, in_head, no_head, behind_head, split_at, split_after, split_from, split_of}
 use Rattle.http_wire.specs.Outcomes.{Outcome, nothing_yet, outcome_by, body_start, IsSeen, IsOutcome, IsFinalAnswer}
 use Rattle.http_wire.specs.Readers.{IsShown, IsBodyBehind, IsPhaseOf, IsInBody, HasRead, Reads, Feeds, IsNearer, Refuses, fed_by, refused_phase}
-use Rattle.http_wire.proofs.Runs.{after-append, of-append, settled_after, settled_of}
+use Rattle.http_wire.proofs.Runs.{after-append, of-append, settled_after, settled_of, few_of}
 use Rattle.http_wire.proofs.SplitFacts.{split-append, behind_by, none_by}
 use Rattle.http_wire.proofs.Nearer.{bytes_nearer, nearer_by, nearer_ends, nearer_goes, nearer_refused}
 
@@ -35,6 +35,7 @@ reads_none reader limit bytes into before h =
       read = subst (λ all. HasRead reader limit all before) (sym (append-nil bytes)) h;
       more = [];
       goes_on = sym (append-nil before.content);
+      few = omega arith;
       gives = sym (append-nil into);
       nearer = λ more. (more, omega arith);
     }
@@ -49,6 +50,7 @@ reads_then old one two limit bytes xs ys into_0 into_1 into_2 before r s =
       read = subst (λ all. HasRead two limit all s.after) (append_assoc bytes xs ys) s.read;
       more = r.more ++ s.more;
       goes_on = s.goes_on ∙ ap (λ front. front ++ s.more) r.goes_on ∙ append_assoc before.content r.more s.more;
+      few = omega (arith, r.few, s.few, length-append r.more s.more, length-append xs ys);
       gives = s.gives ∙ ap (λ front. front ++ s.more) r.gives ∙ append_assoc into_0 r.more s.more;
       nearer = λ more.
           let second = s.nearer more in
@@ -77,6 +79,7 @@ reads_byte old new limit bytes b before line front split seen h was is same s p 
       };
       more = [];
       goes_on = empty ∙ sym none ∙ sym (append-nil before.content);
+      few = omega arith;
       gives = refl;
       nearer = nearer;
     }
@@ -129,6 +132,7 @@ reads_body old new limit bytes piece into_old into_new before body h was is same
       };
       more = content_of body piece;
       goes_on = on.content ∙ ap (λ outcome. outcome.content ++ content_of body piece) (sym h.outcome_is);
+      few = few_of body piece;
       gives = into;
       nearer = nearer_by old new (length piece) (InBody body) (InBody (after_bytes body piece)) was is (bytes_nearer body piece);
     }
@@ -216,7 +220,7 @@ reads_nothing reader limit bytes (x ∷ xs) into before line e r h = absurd (sub
 pub reads_still : (old new : ReplyReader) (limit : ℕ) (bytes piece into : Bytes) (before : Outcome) → (r : Reads old new limit bytes piece before [] [])
     → Reads old new limit bytes piece before into into
 reads_still old new limit bytes piece into before r =
-    record { after = r.after; read = r.read; more = r.more; goes_on = r.goes_on; gives = sym (append-nil into) ∙ ap (λ m. into ++ m) r.gives; nearer = r.nearer }
+    record { after = r.after; read = r.read; more = r.more; goes_on = r.goes_on; few = r.few; gives = sym (append-nil into) ∙ ap (λ m. into ++ m) r.gives; nearer = r.nearer }
 
 pub final_place : (place : BodyPlace) → IsFinalAnswer (fed_at place) → is_final place ≡ true
 final_place UntilClose s = absurd s
@@ -257,6 +261,7 @@ feeds_of old now limit bytes piece into_old into_new before result r is =
       answer = is ∙ fed_is now limit (bytes ++ piece) r.after r.read;
       more = r.more;
       goes_on = r.goes_on;
+      few = r.few;
       gives = r.gives;
       nearer = λ more. (r.nearer (sym is ∙ more)).1;
     }

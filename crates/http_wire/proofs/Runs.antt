@@ -1,5 +1,5 @@
 -- Runs of bytes in a body.
-use Rattle.std.proofs.Common.{◌≡◌, ℕ, zero, suc, ◌+◌, ◌-◌, ◌<◌, ◌≤◌, Bool, true, false, List, [], ◌∷◌, ◌++◌, length, take, drop, refl, sym, ap, ◌∙◌, arith, append_assoc, subst, length-take, take-append-drop, ◌==◌}
+use Rattle.std.proofs.Common.{◌≡◌, ℕ, zero, suc, ◌+◌, ◌-◌, ◌<◌, ◌≤◌, Bool, true, false, List, [], ◌∷◌, ◌++◌, length, take, drop, refl, sym, ap, ◌∙◌, arith, append_assoc, subst, length-take, length-append, take-append-drop, ◌==◌, if◌then◌else◌, ◌&&◌, nat_lt}
 use Rattle.std.proofs.Math.Nat.{sub-zero}
 use Rattle.std.proofs.lemmas.Bool.{lt-ltb, false≢true}
 use Rattle.std.proofs.lemmas.Bool.Decides.{nat_tests}
@@ -42,7 +42,17 @@ of-append body (x ∷ xs) ys =
     ap (λ rest. content_byte body x ++ rest) (of-append (after_byte body x) xs ys)
     ∙ sym (append_assoc (content_byte body x) (content_of (after_byte body x) xs) (content_of (after_bytes (after_byte body x) xs) ys))
 
--- a byte of the file
+-- at most as much content as bytes
+few_byte : (t : Bool) (b : ℕ) → length (if t then b ∷ [] else []) ≤ 1
+few_byte true b = omega arith
+few_byte false b = omega arith
+
+pub few_of : (body : BodyState) (xs : List ℕ) → length (content_of body xs) ≤ length xs
+few_of body [] = omega arith
+few_of body (x ∷ xs) =
+    omega (arith, few_byte (is_content body.place && nat_lt 0 body.room) x, few_of (after_byte body x) xs, length-append (content_byte body x) (content_of (after_byte body x) xs))
+
+-- a byte of content
 positive : (n : ℕ) → 0 < n → (n == 0) ≡ false
 positive n p = grind (arith, nat_tests, p)
 
@@ -52,7 +62,7 @@ file_step place room x f p = rw (f, positive room p) refl
 pub file_byte : (place : BodyPlace) (room x : ℕ) → is_content place ≡ true → 0 < room → content_byte (at place room) x ≡ x ∷ []
 file_byte place room x f p = rw (f, lt-ltb 0 room p) refl
 
--- places in a run of n bytes of the file
+-- places in a run of n bytes of content
 pub record IsRun (f : ℕ → BodyPlace) : Type 0 where
   pub in_file : (n : ℕ) → 0 < n → is_content (f n) ≡ true
   pub next : (n : ℕ) → 0 < n → after_content (f n) 1 ≡ f (n - 1)
@@ -130,7 +140,7 @@ run_then_of place room xs ys f r range =
     ∙ ap (λ front. front ++ content_of (after_bytes (at place room) xs) ys) (run_of place room xs f r range)
     ∙ ap (λ b. xs ++ content_of b ys) (run_after place room xs f r range)
 
--- no room is left for a byte of the file
+-- no room is left for a byte of content
 pub full_after : (place : BodyPlace) (xs : List ℕ) → is_content place ≡ true → 0 < length xs → after_bytes (at place 0) xs ≡ at (Refused BodyTooLong) 0
 full_after place [] f p = absurd (omega (arith, p))
 full_after place (x ∷ xs) f p =
@@ -194,7 +204,7 @@ runs_less (Trailer line k) m n r l = r
 runs_less Whole m n r l = r
 runs_less (Refused e) m n r l = r
 
--- n bytes of the file are taken at once
+-- n bytes of content are taken at once
 pub taken_after : (body : BodyState) (m n : ℕ) (xs : List ℕ) → InRange body.place → HoldsRun body.place m → n ≤ m → n ≤ body.room → n ≤ length xs
     → after_bytes (at (after_content body.place n) (body.room - n)) (drop n xs) ≡ after_bytes body xs
 taken_after body m n xs f r l range within =

@@ -20,13 +20,13 @@ add_coding Unsupported value = Unsupported
 
 -- with the value of one more field, where it has the name
 abbrev pub coding_if : Bool → TransferCoding → Bytes → TransferCoding
-coding_if true coding value = add_coding coding value
-coding_if false coding value = coding
+coding_if true sofar value = add_coding sofar value
+coding_if false sofar value = sofar
 
 -- with all these values
 abbrev pub codings_from : TransferCoding → List Bytes → TransferCoding
-codings_from coding [] = coding
-codings_from coding (value ∷ more) = codings_from (add_coding coding value) more
+codings_from sofar [] = sofar
+codings_from sofar (value ∷ more) = codings_from (add_coding sofar value) more
 
 -- where a body begins: a transfer coding counts before any other length
 abbrev pub place_by_coding : TransferCoding → BodyPlace → BodyPlace

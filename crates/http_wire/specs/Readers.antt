@@ -16,7 +16,7 @@ use Rattle.http_wire.specs.BodyStarts.{HeadData}
 use Rattle.http_wire.specs.Fields.{Bytes}
 use Rattle.http_wire.specs.Heads.{IsHead}
 use Rattle.http_wire.specs.Measures.{left_of}
-use Rattle.http_wire.specs.Outcomes.{Outcome, outcome_by, body_start, IsSeen}
+use Rattle.http_wire.specs.Outcomes.{Outcome, outcome_by, body_start, IsSeen, IsOutcome}
 use Rattle.http_wire.specs.Splits.{Split, in_head, no_head, behind_head, split_of}
 
 -- the head that is handed out is the one that was seen
@@ -77,6 +77,7 @@ pub record Reads (old now : ReplyReader) (limit : ℕ) (bytes piece : Bytes) (be
   pub read : HasRead now limit (bytes ++ piece) after
   pub more : Bytes
   pub goes_on : after.content ≡ before.content ++ more
+  pub few : length more ≤ length piece
   pub gives : into_new ≡ into_old ++ more
   pub nearer : IsNearer old now (length piece)
 
@@ -87,6 +88,7 @@ pub record Feeds (old now : ReplyReader) (limit : ℕ) (bytes piece : Bytes) (be
   pub answer : result ≡ after.fed
   pub more : Bytes
   pub goes_on : after.content ≡ before.content ++ more
+  pub few : length more ≤ length piece
   pub gives : into_new ≡ into_old ++ more
   pub nearer : result ≡ Ok More → left_of now + length piece ≤ left_of old
 
@@ -97,3 +99,9 @@ pub record GivesPart (before after into_old into_new : Bytes) : Type 0 where
   pub rest : Bytes
   pub gives : into_new ++ rest ≡ into_old ++ more
   pub kept : length into_old ≤ length into_new
+
+-- so it is for a piece, whatever was read before
+abbrev pub GivesParts : ReplyReader → Bytes → Bytes → Bytes → Type 0
+GivesParts old piece into_old into_new =
+    (limit : ℕ) (bytes : Bytes) (before after : Outcome) → HasRead old limit bytes before → IsOutcome limit (bytes ++ piece) after
+    → GivesPart before.content after.content into_old into_new

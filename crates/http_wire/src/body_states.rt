@@ -26,6 +26,7 @@ impl BodyState {
         ensures forth { IfOk result (λ n. (0 < n) × (n ≤ length piece.now)) }
         ensures after { IfOk result (λ n. after_bytes self.new (drop n piece.now) ≡ after_bytes self.old piece.now) }
         ensures given { IfOk result (λ n. into.new.items ++ content_of self.new (drop n piece.now) ≡ into.old.items ++ content_of self.old piece.now) }
+        ensures grows { length into.old.items ≤ length into.new.items }
         ensures err { OnErr result (into.new.items ≡ into.old.items) }
     {
         if self.room == 0 {
@@ -64,6 +65,7 @@ impl BodyState {
         ensures forth { IfOk result (λ n. (0 < n) × (n ≤ length piece.now)) }
         ensures after { IfOk result (λ n. after_bytes self.new (drop n piece.now) ≡ after_bytes self.old piece.now) }
         ensures given { IfOk result (λ n. into.new.items ++ content_of self.new (drop n piece.now) ≡ into.old.items ++ content_of self.old piece.now) }
+        ensures grows { length into.old.items ≤ length into.new.items }
         ensures err { OnErr result (into.new.items ≡ into.old.items) }
     {
         match self.place.content_run() {

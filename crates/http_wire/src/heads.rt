@@ -3,8 +3,8 @@ ghost use Rattle.std.specs.Prelude.{◌≡◌, All, IfOk, IfSome, Option, length
 ghost use Rattle.httparse.specs.Spans.{IsHeaderWithin, header_bytes};
 ghost use Rattle.http_wire.specs.BodyPlaces.{InRange};
 ghost use Rattle.http_wire.specs.Fields.{field_values};
-ghost use Rattle.http_wire.specs.BodyStarts.{body_place};
-ghost use Rattle.http_wire.specs.Heads.{HeadData, IsHeadOf, IsLocation, IsParsed};
+ghost use Rattle.http_wire.specs.BodyStarts.{HeadData, body_place};
+ghost use Rattle.http_wire.specs.Heads.{IsHeadOf, IsLocation, IsParsed};
 
 use crate::Head;
 use crate::body_places::BodyPlace;

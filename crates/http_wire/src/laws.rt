@@ -1,5 +1,5 @@
 //! What holds of every reply: laws, with nothing to run.
-ghost use Rattle.std.specs.Prelude.{◌≡◌, ◌++◌, ◌≤◌, ℕ, IsSome, length, Err};
+ghost use Rattle.std.specs.Prelude.{◌≡◌, ◌≢◌, [], ◌++◌, ◌≤◌, ℕ, IsSome, length, Err};
 ghost use Rattle.http_wire.specs.declared.reply_reader.ReplyReader.{ReplyReader as Reader};
 ghost use Rattle.http_wire.specs.declared.replies.ReplyErr.{ReplyErr as Refusal};
 ghost use Rattle.http_wire.specs.Fields.{Bytes};
@@ -28,8 +28,11 @@ pub fn final_stays()
 {}
 
 /// Once the head was read, the content so far is the beginning of the content, whatever follows.
+/// Before that there is none.
 pub fn content_grows()
-    ensures { (limit : ℕ) (bytes rest : Bytes) (outcome : Outcome)
+    ensures starts { (limit : ℕ) (bytes : Bytes) (outcome : Outcome)
+        → IsOutcome limit bytes outcome → outcome.content ≢ [] → IsSome outcome.seen }
+    ensures grows { (limit : ℕ) (bytes rest : Bytes) (outcome : Outcome)
         → IsOutcome limit bytes outcome → IsSome outcome.seen → GoesOnTo limit (bytes ++ rest) outcome }
 {}
 
@@ -38,7 +41,7 @@ pub fn within_limit()
     ensures within { (limit : ℕ) (bytes : Bytes) (outcome : Outcome)
         → IsOutcome limit bytes outcome → length outcome.content ≤ limit }
     ensures full { (limit : ℕ) (bytes : Bytes) (outcome : Outcome)
-        → IsOutcome limit bytes outcome → outcome.fed ≡ Err Refusal.BodyTooLong → length outcome.content ≡ limit }
+        → IsOutcome limit bytes outcome → outcome.closed ≡ Err Refusal.BodyTooLong → length outcome.content ≡ limit }
 {}
 
 /// The head that a reader hands out is the one that was seen.

@@ -36,8 +36,8 @@ impl ReplyReader {
     ghost use Rattle.http_wire.specs.BodyStarts.{HeadData};
     ghost use Rattle.http_wire.specs.Fields.{Bytes};
     ghost use Rattle.http_wire.specs.Heads.{IsHeadOf};
-    ghost use Rattle.http_wire.specs.Outcomes.{Outcome, IsOutcome, nothing_yet, body_start, wants_memory};
-    ghost use Rattle.http_wire.specs.Readers.{HasRead, Reads, Feeds, GivesPart, Refuses, IsInBody, IsShown, shown_head, fed_by, refused_phase};
+    ghost use Rattle.http_wire.specs.Outcomes.{Outcome, nothing_yet, body_start, wants_memory};
+    ghost use Rattle.http_wire.specs.Readers.{HasRead, Reads, Feeds, GivesParts, Refuses, IsInBody, IsShown, shown_head, fed_by, refused_phase};
 
     /// Before the first piece of a reply whose content may have so many bytes.
     pub fn new(alloc: Global, limit: u64) -> ReplyReader
@@ -133,9 +133,7 @@ impl ReplyReader {
         requires { 0 < length piece.now → IsInBody self.old.phase }
         ensures reads { OnOk result ((limit : ℕ) (bytes : Bytes) (before : Outcome)
             → HasRead self.old limit bytes before → Reads self.old self.new limit bytes piece.now before into.old.items into.new.items) }
-        ensures part { OnErr result ((limit : ℕ) (bytes : Bytes) (before after : Outcome)
-            → HasRead self.old limit bytes before → IsOutcome limit (bytes ++ piece.now) after
-            → GivesPart before.content after.content into.old.items into.new.items) }
+        ensures part { OnErr result (GivesParts self.old piece.now into.old.items into.new.items) }
     {
         match self.phase {
             Phase::InHead(_) => Ok(()),
@@ -151,9 +149,7 @@ impl ReplyReader {
     fn take(&mut self, alloc: Global, piece: &[u8], into: &mut Vec<u8>) -> Result<(), NoMemory>
         ensures reads { OnOk result ((limit : ℕ) (bytes : Bytes) (before : Outcome)
             → HasRead self.old limit bytes before → Reads self.old self.new limit bytes piece.now before into.old.items into.new.items) }
-        ensures part { OnErr result ((limit : ℕ) (bytes : Bytes) (before after : Outcome)
-            → HasRead self.old limit bytes before → IsOutcome limit (bytes ++ piece.now) after
-            → GivesPart before.content after.content into.old.items into.new.items) }
+        ensures part { OnErr result (GivesParts self.old piece.now into.old.items into.new.items) }
     {
         let count = self.take_head(alloc, piece)?;
         self.take_body(&piece[count..], into)?;
@@ -178,9 +174,7 @@ impl ReplyReader {
         ensures feeds { wants_memory result ≡ false → (limit : ℕ) (bytes : Bytes) (before : Outcome)
             → HasRead self.old limit bytes before
             → Feeds self.old self.new limit bytes piece.now before into.old.items into.new.items result }
-        ensures part { result ≡ Err Refusal.NoMemory → (limit : ℕ) (bytes : Bytes) (before after : Outcome)
-            → HasRead self.old limit bytes before → IsOutcome limit (bytes ++ piece.now) after
-            → GivesPart before.content after.content into.old.items into.new.items }
+        ensures part { result ≡ Err Refusal.NoMemory → GivesParts self.old piece.now into.old.items into.new.items }
         ensures refuses { (e : Refusal) → result ≡ Err e → Refuses self.new e }
         ensures again { (e : Refusal) → Refuses self.old e → result ≡ Err e }
         ensures idle { (e : Refusal) → Refuses self.old e → into.new.items ≡ into.old.items }

@@ -1,7 +1,8 @@
 use Rattle.std.specs.Prelude.{◌≡◌, drop, map, codes}
 use Rattle.httparse.specs.Spans.{header_bytes}
 use Rattle.http_wire.specs.declared.fields.TransferCoding.TheVariants.{NoCoding}
-use Rattle.http_wire.specs.Heads.{field_values, codings_from}
+use Rattle.http_wire.specs.Fields.{field_values}
+use Rattle.http_wire.specs.Codings.{codings_from}
 use Rattle.http_wire.proofs.fields.coding_said.Given as goal
 
 abbrev pub invariant-loop-field : goal.invariant-loop-field

@@ -1,5 +1,5 @@
 use Rattle.std.specs.Prelude.{◌≡◌, drop}
-use Rattle.http_wire.specs.Heads.{decimal_from}
+use Rattle.http_wire.specs.ContentLengths.{decimal_from}
 use Rattle.http_wire.proofs.fields.decimal.Given as goal
 
 abbrev pub invariant-loop-byte : goal.invariant-loop-byte

@@ -1,7 +1,8 @@
 use Rattle.std.specs.Prelude.{◌≡◌, drop, map, codes}
 use Rattle.httparse.specs.Spans.{header_bytes}
 use Rattle.http_wire.specs.declared.fields.LengthSaid.TheVariants.{NoLength}
-use Rattle.http_wire.specs.Heads.{lengths_from, field_values}
+use Rattle.http_wire.specs.Fields.{field_values}
+use Rattle.http_wire.specs.ContentLengths.{lengths_from}
 use Rattle.http_wire.proofs.fields.length_said.Given as goal
 
 abbrev pub invariant-loop-field : goal.invariant-loop-field

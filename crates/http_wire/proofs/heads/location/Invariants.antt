@@ -1,6 +1,6 @@
 use Rattle.std.specs.Prelude.{◌≡◌, drop, map, codes}
 use Rattle.httparse.specs.Spans.{header_bytes}
-use Rattle.http_wire.specs.Heads.{field_values}
+use Rattle.http_wire.specs.Fields.{field_values}
 use Rattle.http_wire.proofs.heads.location.Given as goal
 
 abbrev pub invariant-loop-field : goal.invariant-loop-field

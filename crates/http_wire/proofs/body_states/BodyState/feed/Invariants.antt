@@ -7,6 +7,7 @@ abbrev pub invariant-loop-at : goal.invariant-loop-at
 invariant-loop-at l = record {
   range : InRange l.self.place;
   within : l.at ≤ length l.piece;
+  grows : length l.fn.into.items ≤ length l.into.items;
   after : after_bytes l.self (drop l.at l.piece) ≡ after_bytes l.fn.self l.piece;
   given : l.into.items ++ content_of l.self (drop l.at l.piece) ≡ l.fn.into.items ++ content_of l.fn.self l.piece;
 }
