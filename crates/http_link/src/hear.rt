@@ -6,7 +6,7 @@ ghost use Rattle.http_wire.specs.Measures.{left_of};
 ghost use Rattle.http_wire.specs.Outcomes.{Outcome, nothing_yet};
 ghost use Rattle.http_wire.specs.Requests.{request_of};
 ghost use Rattle.http_link.specs.declared.wire.Page.{Page as PageRow};
-ghost use Rattle.http_link.specs.Hearing.{IsHearing, HasReadSome, IsToldOf, HearsFew, HearsLast, reply_told};
+ghost use Rattle.http_link.specs.Hearing.{IsHearing, HasReadSome, IsToldOf, HearsFew, HearsLast, ended_of, reply_told};
 
 use crate::places::Place;
 use crate::{Failed, Wire};
@@ -19,6 +19,18 @@ use std::alloc::Global;
 pub(crate) enum Step {
     More,
     Ended(Result<(), ReplyErr>),
+}
+
+impl Step {
+    /// How the reply ended, unless more may come.
+    pub(crate) fn ended(self) -> Option<Result<(), ReplyErr>>
+        ensures { result ≡ ended_of self }
+    {
+        match self {
+            Step::More => None,
+            Step::Ended(ended) => Some(ended),
+        }
+    }
 }
 
 /// Asks for what stands at a place.

@@ -7,6 +7,8 @@ mod http_link;
 mod memory_wire;
 mod pages;
 mod places;
+#[cfg(test)]
+mod tests;
 mod visits;
 mod wire;
 

@@ -94,10 +94,7 @@ fn opened(reader: ReplyReader, step: Step, pending: Vec<u8>) -> Found
         → HearsFew step told connection reader limit reply nothing_yet most [] pending.items → (step ≡ Step.More → pending.items ≢ [])
         → IsFoundFile told connection limit reply most result }
 {
-    let ended = match step {
-        Step::More => None,
-        Step::Ended(ended) => Some(ended),
-    };
+    let ended = step.ended();
     if pending.is_empty() && !is_file_end(ended) {
         Found::Fault
     } else {
@@ -110,7 +107,7 @@ fn opened(reader: ReplyReader, step: Step, pending: Vec<u8>) -> Found
 }
 
 /// What a reply of this kind says, which was heard up to its first content or to its end.
-fn found(
+fn page_of(
     alloc: Global,
     kind: Kind,
     reader: ReplyReader,
@@ -158,6 +155,6 @@ pub(crate) fn ask<W: Wire>(
     let mut pending = Vec::new(alloc);
     let step = hear_some(alloc, wire, &mut reader, buffer, &mut pending)?;
     let kind = kind_of_head(reader.head());
-    let found = found(alloc, kind, reader, step, pending)?;
+    let found = page_of(alloc, kind, reader, step, pending)?;
     Ok(found)
 }

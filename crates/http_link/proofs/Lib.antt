@@ -1,0 +1,4 @@
+pub mod HearFacts
+pub mod PageFacts
+pub mod PieceFacts
+pub mod VisitFacts

@@ -1,0 +1,13 @@
+pub mod Addresses
+pub mod Agreement
+pub mod Answers
+pub mod Gots
+pub mod Hearing
+pub mod MemoryWires
+pub mod Openings
+pub mod Pages
+pub mod Places
+pub mod Readings
+pub mod Visited
+pub mod Visits
+pub mod Wires
