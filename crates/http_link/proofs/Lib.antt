@@ -1,4 +1,5 @@
 pub mod HearFacts
+pub mod KnownFacts
 pub mod PageFacts
 pub mod PieceFacts
 pub mod VisitFacts
