@@ -52,20 +52,29 @@ short_line read place p = short_if (nat_le (read + 2) 65536) place (Refused BadC
 
 short_size : (size read b : ℕ) → Short (after_size size read b)
 short_size size read b =
-    short_if ((b == 32) || (b == 9)) (within_line read (ChunkSpace size read)) (if b == 59 then within_line read (ChunkExtension size read) else (if b == 13 then ChunkLineFeed size else Refused BadChunk)) (short_line read (ChunkSpace size read) (λ h. h))
-    (short_if (b == 59) (within_line read (ChunkExtension size read)) (if b == 13 then ChunkLineFeed size else Refused BadChunk) (short_line read (ChunkExtension size read) (λ h. h))
+    short_if ((b == 32) || (b == 9)) (within_line read (ChunkSpace size read)) (if b == 59 then within_line read
+    (ChunkExtension size read) else (if b == 13 then ChunkLineFeed size else Refused BadChunk)) (short_line read
+    (ChunkSpace size read) (λ h. h))
+    (short_if (b == 59) (within_line read (ChunkExtension size read))
+    (if b == 13 then ChunkLineFeed size else Refused BadChunk) (short_line read (ChunkExtension size read) (λ h. h))
     (short_if (b == 13) (ChunkLineFeed size) (Refused BadChunk) (λ h. h) (λ h. h)))
 
 short_extension : (size read b : ℕ) → Short (after_extension size read b)
 short_extension size read b =
-    short_if (b == 13) (ChunkLineFeed size) (if b == 10 then Refused BadChunk else within_line read (ChunkExtension size read)) (λ h. h) (short_if (b == 10) (Refused BadChunk) (within_line read (ChunkExtension size read)) (λ h. h) (short_line read (ChunkExtension size read) (λ h. h)))
+    short_if (b == 13) (ChunkLineFeed size) (if b == 10 then Refused BadChunk else within_line read
+    (ChunkExtension size read)) (λ h. h) (short_if (b == 10) (Refused BadChunk) (within_line read
+    (ChunkExtension size read)) (λ h. h) (short_line read (ChunkExtension size read) (λ h. h)))
 
 short_digit : (digits size b : ℕ) → Short (after_digit digits size b)
-short_digit digits size b = short_if (nat_lt digits 16 && is_ascii_hexdigit b) (ChunkSize (digits + 1) (size * 16 + digit_value b)) (if digits == 0 then Refused BadChunk else after_size size (digits + 1) b) (λ h. h) (short_if (digits == 0) (Refused BadChunk) (after_size size (digits + 1) b) (λ h. h) (short_size size (digits + 1) b))
+short_digit digits size b = short_if (nat_lt digits 16 && is_ascii_hexdigit b) (ChunkSize (digits + 1)
+    (size * 16 + digit_value b)) (if digits == 0 then Refused BadChunk else after_size size (digits + 1) b) (λ h. h)
+    (short_if (digits == 0) (Refused BadChunk) (after_size size (digits + 1) b) (λ h. h) (short_size size
+    (digits + 1) b))
 
 short_trailer : (read : ℕ) (line : Option LinePlace) → Short (trailer_place read line)
 short_trailer read None = λ h. h
-short_trailer read (Some line) = short_if (nat_le (read + least_left line) 65536) (Trailer line read) (Refused BadChunk) (λ h. h) (λ h. h)
+short_trailer read (Some line) = short_if (nat_le (read + least_left line) 65536) (Trailer line read)
+    (Refused BadChunk) (λ h. h) (λ h. h)
 
 short_begun : (size : ℕ) → Short (data_begun size)
 short_begun size = short_if (size == 0) (Trailer LineStart 0) (ChunkData size) (λ h. h) (λ h. h)
@@ -84,7 +93,8 @@ framing_short (ChunkData n) b h = h
 framing_short (ChunkSize digits size) b h = absurd (short_digit digits size b h)
 framing_short (ChunkSpace size n) b h = absurd (short_size size (n + 1) b h)
 framing_short (ChunkExtension size n) b h = absurd (short_extension size (n + 1) b h)
-framing_short (ChunkLineFeed size) b h = absurd (short_if (b == 10) (data_begun size) (Refused BadChunk) (short_begun size) (λ k. k) h)
+framing_short (ChunkLineFeed size) b h = absurd (short_if (b == 10) (data_begun size) (Refused BadChunk)
+    (short_begun size) (λ k. k) h)
 framing_short DataReturn b h = absurd (short_if (b == 13) DataLineFeed (Refused BadChunk) (λ k. k) (λ k. k) h)
 framing_short DataLineFeed b h = absurd (short_if (b == 10) (ChunkSize 0 0) (Refused BadChunk) (λ k. k) (λ k. k) h)
 framing_short (Trailer line n) b h = absurd (short_trailer (n + 1) (next_line_place line b) h)
@@ -109,7 +119,8 @@ content_short (Refused e) h = h
 abbrev IsFull : BodyState → Type 0
 IsFull body = IsLong (fed_at body.place) → body.room ≡ 0
 
-byte_full : (place : BodyPlace) (room b : ℕ) → (IsLong (fed_at place) → room ≡ 0) → IsFull (after_byte (record { place = place; room = room }) b)
+byte_full : (place : BodyPlace) (room b : ℕ) → (IsLong (fed_at place) → room ≡ 0)
+    → IsFull (after_byte (record { place = place; room = room }) b)
 byte_full place room b p = by_test (is_content place) refl
   where
     not_both : (q : BodyPlace) → is_content q ≡ true → IsLong (fed_at q) → ⊥
@@ -125,6 +136,7 @@ byte_full place room b p = by_test (is_content place) refl
     not_both DataLineFeed c h = h
     not_both (Trailer line n) c h = h
     not_both Whole c h = h
+
     by_test : (t : Bool) → is_content place ≡ t → IsFull (after_byte (record { place = place; room = room }) b)
     by_test false e = rw e (λ h. p (framing_short place b h))
     by_test true e = rw e (by_room (room == 0) refl)
@@ -151,13 +163,19 @@ abbrev by_length : List (Bytes × Bytes) → BodyPlace
 by_length fields = place_by_length (lengths_from NoLength (field_values (codes "content-length") fields))
 
 abbrev framed : List (Bytes × Bytes) → BodyPlace
-framed fields = place_by_coding (codings_from NoCoding (field_values (codes "transfer-encoding") fields)) (by_length fields)
+framed fields = place_by_coding (codings_from NoCoding (field_values (codes "transfer-encoding") fields))
+    (by_length fields)
 
 start_full : (limit : ℕ) (seen : Option HeadData) → IsFull (body_start limit seen)
 start_full limit None = λ h. absurd h
-start_full limit (Some seen) = λ h. absurd (short_if (seen.status == 200) (place_by_fields seen.fields) Whole (short_if (is_encoded (field_values (codes "content-encoding") seen.fields)) (Refused Encoded) (framed seen.fields) (λ k. k) (short_coding (codings_from NoCoding (field_values (codes "transfer-encoding") seen.fields)) (by_length seen.fields) (short_length (lengths_from NoLength (field_values (codes "content-length") seen.fields))))) (λ k. k) h)
+start_full limit (Some seen) = λ h. absurd (short_if (seen.status == 200) (place_by_fields seen.fields) Whole
+    (short_if (is_encoded (field_values (codes "content-encoding") seen.fields)) (Refused Encoded)
+    (framed seen.fields) (λ k. k) (short_coding (codings_from NoCoding (field_values
+    (codes "transfer-encoding") seen.fields)) (by_length seen.fields) (short_length (lengths_from NoLength
+    (field_values (codes "content-length") seen.fields))))) (λ k. k) h)
 
-full_split : (limit : ℕ) (split : Split) (seen : Option HeadData) → IsLong (outcome_by limit split seen).fed → length (outcome_by limit split seen).content ≡ limit
+full_split : (limit : ℕ) (split : Split) (seen : Option HeadData) → IsLong (outcome_by limit split seen).fed
+    → length (outcome_by limit split seen).content ≡ limit
 full_split limit (in_head line front) seen h = absurd h
 full_split limit no_head seen h = absurd h
 full_split limit (behind_head front rest) None h =
@@ -186,12 +204,15 @@ closed_long (Trailer line n) h = h
 closed_long Whole h = h
 closed_long (Refused e) h = h
 
-closed_split : (limit : ℕ) (split : Split) (seen : Option HeadData) → IsLongEnd (outcome_by limit split seen).closed → IsLong (outcome_by limit split seen).fed
+closed_split : (limit : ℕ) (split : Split) (seen : Option HeadData) → IsLongEnd (outcome_by limit split seen).closed
+    → IsLong (outcome_by limit split seen).fed
 closed_split limit (in_head line front) seen h = h
 closed_split limit no_head seen h = h
 closed_split limit (behind_head front rest) seen h = closed_long (after_bytes (body_start limit seen) rest).place h
 
-pub full_law : (limit : ℕ) (bytes : Bytes) (outcome : Outcome) → IsOutcome limit bytes outcome → outcome.closed ≡ Err BodyTooLong → length outcome.content ≡ limit
+pub full_law : (limit : ℕ) (bytes : Bytes) (outcome : Outcome) → IsOutcome limit bytes outcome
+    → outcome.closed ≡ Err BodyTooLong → length outcome.content ≡ limit
 full_law limit bytes outcome h e =
     subst (λ k. IsLongEnd k.closed → length k.content ≡ limit) (sym h.2)
-    (λ long. full_split limit (split_of bytes) h.0 (closed_split limit (split_of bytes) h.0 long)) (subst IsLongEnd (sym e) tt)
+    (λ long. full_split limit (split_of bytes) h.0 (closed_split limit (split_of bytes) h.0 long)) (subst IsLongEnd
+    (sym e) tt)

@@ -14,19 +14,28 @@ use Rattle.http_wire.specs.Heads.{head_data, IsReplyHead, IsHeadOf, IsParsed, Is
 abbrev pub seen_by : Bytes → List HeaderSpan → ResponseSpans → HeadData
 seen_by buf spans found = record { status = found.code; fields = map (header_bytes buf) (take found.headers spans) }
 
-pub found_head : (buf : Bytes) (spans : List HeaderSpan) (found : ResponseSpans) (location : Option Bytes) (start : BodyPlace)
+pub found_head : (buf : Bytes) (spans : List HeaderSpan) (found : ResponseSpans) (location : Option Bytes)
+    (start : BodyPlace)
     → IsResponseWithin buf spans found → length spans ≡ 100 → found.len ≡ length buf → IsResponseOf buf spans found
-    → IsLocation (field_values (codes "location") (seen_by buf spans found).fields) location → start ≡ body_place (seen_by buf spans found)
-    → (x : Option HeadData) × IsHeadOf buf x × IsParsed x (Some (record { head = record { status = found.code; location = location }; start = start }))
+    → IsLocation (field_values (codes "location") (seen_by buf spans found).fields) location
+    → start ≡ body_place (seen_by buf spans found)
+    → (x : Option HeadData) × IsHeadOf buf x
+    × IsParsed x (Some (record { head = record { status = found.code; location = location }; start = start }))
 found_head buf spans found location start within room whole of l s =
     let h = of.0 in
     let at = of.1 in
     let same : seen_by buf spans found ≡ head_data h = λ i. record { status = at.code i; fields = at.fields i } in
-    let reads : ReadsResponse buf h [] = subst (ReadsResponse buf h) (drop_all found.len buf (omega (arith, whole))) at.reads in
+    let reads : ReadsResponse buf h [] = subst (ReadsResponse buf h) (drop_all found.len buf (omega
+    (arith, whole))) at.reads in
     let as_many : length h.fields ≡ length (take found.headers spans) =
-    sym (length-map h.fields name_and_value) ∙ ap length (sym at.fields) ∙ length-map (take found.headers spans) (header_bytes buf) in
-    let few : length h.fields ≤ 100 = omega (arith, as_many, length-take found.headers spans, within.section.count_fits, room) in
-    (Some (seen_by buf spans found), (h, record { reads = reads; few = few }, same), (record { status = refl; location = l }, s))
+    sym (length-map h.fields name_and_value) ∙ ap length (sym at.fields)
+    ∙ length-map (take found.headers spans) (header_bytes buf) in
+    let few : length h.fields ≤ 100 = omega
+    (arith, as_many, length-take found.headers spans, within.section.count_fits, room) in (
+      Some (seen_by buf spans found),
+      (h, record { reads = reads; few = few }, same),
+      (record { status = refl; location = l }, s),
+    )
 
 -- bytes are at most one head
 pub head_unique : (bytes : Bytes) (one two : Option HeadData) → IsHeadOf bytes one → IsHeadOf bytes two → one ≡ two

@@ -31,32 +31,53 @@ Lower n place = fed_at place ≡ Ok More → framing_left place + 1 ≤ n
 at_end : {T : Type 0} (answer : Result Fed ReplyErr) → IsFinalAnswer answer → answer ≡ Ok More → T
 at_end answer f e = absurd (subst IsFinalAnswer e f)
 
-lower_if : (t : Bool) (x y : BodyPlace) (n : ℕ) → (t ≡ true → Lower n x) → (t ≡ false → Lower n y) → Lower n (if t then x else y)
+lower_if : (t : Bool) (x y : BodyPlace) (n : ℕ) → (t ≡ true → Lower n x) → (t ≡ false → Lower n y)
+    → Lower n (if t then x else y)
 lower_if true x y n p q = p refl
 lower_if false x y n p q = q refl
 
 lower_refused : (e : ReplyErr) (n : ℕ) → Lower n (Refused e)
 lower_refused e n = at_end (Err e) tt
 
-within_lower : (read : ℕ) (place : BodyPlace) (n : ℕ) → (read + 2 ≤ 65536 → Lower n place) → Lower n (within_line read place)
+within_lower : (read : ℕ) (place : BodyPlace) (n : ℕ) → (read + 2 ≤ 65536 → Lower n place)
+    → Lower n (within_line read place)
 within_lower read place n p =
-    lower_if (nat_le (read + 2) 65536) place (Refused BadChunk) n (λ e. p (grind (arith, nat_tests, e))) (λ e. lower_refused BadChunk n)
+    lower_if (nat_le (read + 2) 65536) place (Refused BadChunk) n (λ e. p (grind (arith, nat_tests, e)))
+    (λ e. lower_refused BadChunk n)
 
-size_lower : (size read b n : ℕ) → (read + 2 ≤ 65536 → 65539 + (65537 - read) + 1 ≤ n) → 65539 ≤ n → Lower n (after_size size read b)
+size_lower : (size read b n : ℕ) → (read + 2 ≤ 65536 → 65539 + (65537 - read) + 1 ≤ n) → 65539 ≤ n
+    → Lower n (after_size size read b)
 size_lower size read b n p q =
-    lower_if ((b == 32) || (b == 9)) (within_line read (ChunkSpace size read)) (if b == 59 then within_line read (ChunkExtension size read) else (if b == 13 then ChunkLineFeed size else Refused BadChunk)) n (λ e. within_lower read (ChunkSpace size read) n (λ f h. p f))
-    (λ e. lower_if (b == 59) (within_line read (ChunkExtension size read)) (if b == 13 then ChunkLineFeed size else Refused BadChunk) n (λ f. within_lower read (ChunkExtension size read) n (λ g h. p g))
-    (λ f. lower_if (b == 13) (ChunkLineFeed size) (Refused BadChunk) n (λ g h. omega (arith, q)) (λ g. lower_refused BadChunk n)))
+    lower_if ((b == 32) || (b == 9)) (within_line read (ChunkSpace size read)) (if b == 59 then within_line read
+    (ChunkExtension size read) else (if b == 13 then ChunkLineFeed size else Refused BadChunk)) n
+    (λ e. within_lower read (ChunkSpace size read) n (λ f h. p f))
+    (λ e. lower_if (b == 59) (within_line read (ChunkExtension size read))
+    (if b == 13 then ChunkLineFeed size else Refused BadChunk) n (λ f. within_lower read
+    (ChunkExtension size read) n (λ g h. p g))
+    (λ f. lower_if (b == 13) (ChunkLineFeed size) (Refused BadChunk) n (λ g h. omega (arith, q))
+    (λ g. lower_refused BadChunk n)))
 
-extension_lower : (size read b n : ℕ) → (read + 2 ≤ 65536 → 65539 + (65537 - read) + 1 ≤ n) → 65539 ≤ n → Lower n (after_extension size read b)
+extension_lower : (size read b n : ℕ) → (read + 2 ≤ 65536 → 65539 + (65537 - read) + 1 ≤ n) → 65539 ≤ n
+    → Lower n (after_extension size read b)
 extension_lower size read b n p q =
-    lower_if (b == 13) (ChunkLineFeed size) (if b == 10 then Refused BadChunk else within_line read (ChunkExtension size read)) n (λ e h. omega (arith, q))
-    (λ e. lower_if (b == 10) (Refused BadChunk) (within_line read (ChunkExtension size read)) n (λ f. lower_refused BadChunk n) (λ f. within_lower read (ChunkExtension size read) n (λ g h. p g)))
+    lower_if (b == 13) (ChunkLineFeed size) (if b == 10 then Refused BadChunk else within_line read
+    (ChunkExtension size read)) n (λ e h. omega (arith, q))
+    (λ e. lower_if (b == 10) (Refused BadChunk) (within_line read (ChunkExtension size read)) n
+    (λ f. lower_refused BadChunk n) (λ f. within_lower read (ChunkExtension size read) n (λ g h. p g)))
 
 digit_lower : (digits size b : ℕ) → Lower (131077 + (17 - digits)) (after_digit digits size b)
 digit_lower digits size b =
-    lower_if (nat_lt digits 16 && is_ascii_hexdigit b) (ChunkSize (digits + 1) (size * 16 + digit_value b)) (if digits == 0 then Refused BadChunk else after_size size (digits + 1) b) (131077 + (17 - digits)) (λ e h. let few : digits < 16 = grind (arith, nat_tests, (and_parts (nat_lt digits 16) (is_ascii_hexdigit b) e).0) in omega (arith, few))
-    (λ e. lower_if (digits == 0) (Refused BadChunk) (after_size size (digits + 1) b) (131077 + (17 - digits)) (λ f. lower_refused BadChunk (131077 + (17 - digits))) (λ f. size_lower size (digits + 1) b (131077 + (17 - digits)) (λ g. omega (arith, g)) (omega arith)))
+    lower_if (nat_lt digits 16 && is_ascii_hexdigit b) (ChunkSize (digits + 1) (size * 16 + digit_value b))
+    (if digits == 0 then Refused BadChunk else after_size size (digits + 1) b) (131077 + (17 - digits))
+    (λ e h. let few : digits < 16 = grind (
+      arith,
+      nat_tests,
+      (and_parts (nat_lt digits 16)
+          (is_ascii_hexdigit b) e).0,
+    ) in omega (arith, few))
+    (λ e. lower_if (digits == 0) (Refused BadChunk) (after_size size (digits + 1) b) (131077 + (17 - digits))
+    (λ f. lower_refused BadChunk (131077 + (17 - digits))) (λ f. size_lower size (digits + 1) b (131077 +
+    (17 - digits)) (λ g. omega (arith, g)) (omega arith)))
 
 least_some : (line : LinePlace) → 1 ≤ least_left line
 least_some Leading = omega arith
@@ -69,21 +90,26 @@ trailer_lower : (read : ℕ) (line : Option LinePlace) → Lower (65537 - read) 
 trailer_lower read None = at_end (Ok Done) tt
 trailer_lower read (Some line) =
     lower_if (nat_le (read + 1 + least_left line) 65536) (Trailer line (read + 1)) (Refused BadChunk) (65537 - read)
-    (λ e h. let short : read + 1 + least_left line ≤ 65536 = grind (arith, nat_tests, e) in omega (arith, short, least_some line)) (λ e. lower_refused BadChunk (65537 - read))
+    (λ e h. let short : read + 1 + least_left line ≤ 65536 = grind (arith, nat_tests, e) in omega
+    (arith, short, least_some line)) (λ e. lower_refused BadChunk (65537 - read))
 
 begun_lower : (size : ℕ) → Lower 65538 (data_begun size)
-begun_lower size = lower_if (size == 0) (Trailer LineStart 0) (ChunkData size) 65538 (λ e h. omega arith) (λ e h. omega arith)
+begun_lower size = lower_if (size == 0) (Trailer LineStart 0) (ChunkData size) 65538 (λ e h. omega arith)
+    (λ e h. omega arith)
 
 byte_lower : (b wanted : ℕ) (next : BodyPlace) (n : ℕ) → Lower n next → Lower n (if_byte b wanted next)
 byte_lower b wanted next n p = lower_if (b == wanted) next (Refused BadChunk) n (λ e. p) (λ e. lower_refused BadChunk n)
 
-framing_lower : (place : BodyPlace) (b : ℕ) → is_content place ≡ false → Lower (framing_left place) (after_framing place b)
+framing_lower : (place : BodyPlace) (b : ℕ) → is_content place ≡ false
+    → Lower (framing_left place) (after_framing place b)
 framing_lower UntilClose b c = absurd (true≢false c)
 framing_lower (ContentLeft n) b c = absurd (true≢false c)
 framing_lower (ChunkData n) b c = absurd (true≢false c)
 framing_lower (ChunkSize digits size) b c = digit_lower digits size b
-framing_lower (ChunkSpace size n) b c = size_lower size (n + 1) b (65539 + (65537 - n)) (λ f. omega (arith, f)) (omega arith)
-framing_lower (ChunkExtension size n) b c = extension_lower size (n + 1) b (65539 + (65537 - n)) (λ f. omega (arith, f)) (omega arith)
+framing_lower (ChunkSpace size n) b c = size_lower size (n + 1) b (65539 + (65537 - n)) (λ f. omega (arith, f))
+    (omega arith)
+framing_lower (ChunkExtension size n) b c = extension_lower size (n + 1) b (65539 + (65537 - n)) (λ f. omega
+    (arith, f)) (omega arith)
 framing_lower (ChunkLineFeed size) b c = byte_lower b 10 (data_begun size) 65538 (begun_lower size)
 framing_lower DataReturn b c = byte_lower b 13 DataLineFeed 131096 (λ h. omega arith)
 framing_lower DataLineFeed b c = byte_lower b 10 (ChunkSize 0 0) 131095 (λ h. omega arith)
@@ -92,17 +118,21 @@ framing_lower Whole b c = at_end (Ok Done) tt
 framing_lower (Refused e) b c = at_end (Err e) tt
 
 -- a byte of content, where the limit has room
-content_lower : (place : BodyPlace) (room : ℕ) → is_content place ≡ true → 0 < room → fed_at (after_content place 1) ≡ Ok More
-    → (fed_at place ≡ Ok More) × ((room - 1) * 300001 + framing_left (after_content place 1) + 1 ≤ room * 300001 + framing_left place)
+content_lower : (place : BodyPlace) (room : ℕ) → is_content place ≡ true → 0 < room
+    → fed_at (after_content place 1) ≡ Ok More
+    → (fed_at place ≡ Ok More) × ((room - 1) * 300001 + framing_left
+    (after_content place 1) + 1 ≤ room * 300001 + framing_left place)
 content_lower UntilClose room c p h = (refl, omega (arith, p))
 content_lower (ContentLeft n) room c p h = (refl, by_rest (n - 1 == 0) refl)
   where
-    by_rest : (t : Bool) → (n - 1 == 0) ≡ t → (room - 1) * 300001 + framing_left (content_left (n - 1)) + 1 ≤ room * 300001 + 0
+    by_rest : (t : Bool) → (n - 1 == 0) ≡ t
+        → (room - 1) * 300001 + framing_left (content_left (n - 1)) + 1 ≤ room * 300001 + 0
     by_rest true e = rw e (omega (arith, p))
     by_rest false e = rw e (omega (arith, p))
 content_lower (ChunkData n) room c p h = (refl, by_rest (n - 1 == 0) refl)
   where
-    by_rest : (t : Bool) → (n - 1 == 0) ≡ t → (room - 1) * 300001 + framing_left (data_left (n - 1)) + 1 ≤ room * 300001 + 0
+    by_rest : (t : Bool) → (n - 1 == 0) ≡ t
+        → (room - 1) * 300001 + framing_left (data_left (n - 1)) + 1 ≤ room * 300001 + 0
     by_rest true e = rw e (omega (arith, p))
     by_rest false e = rw e (omega (arith, p))
 content_lower (ChunkSize digits size) room c p h = absurd (true≢false (sym c))
@@ -132,13 +162,17 @@ was_more (Refused e) b h = h
 
 -- more may come behind a body, and so it might before, with more left
 abbrev Nears : BodyPlace → ℕ → BodyState → Type 0
-Nears place room body = fed_at body.place ≡ Ok More → (fed_at place ≡ Ok More) × (body_left body + 1 ≤ room * 300001 + framing_left place)
+Nears place room body = fed_at body.place ≡ Ok More → (fed_at place ≡ Ok More)
+    × (body_left body + 1 ≤ room * 300001 + framing_left place)
 
-byte_nearer : (place : BodyPlace) (room b : ℕ) → fed_at (after_byte (record { place = place; room = room }) b).place ≡ Ok More
-    → (fed_at place ≡ Ok More) × (body_left (after_byte (record { place = place; room = room }) b) + 1 ≤ room * 300001 + framing_left place)
+byte_nearer : (place : BodyPlace) (room b : ℕ)
+    → fed_at (after_byte (record { place = place; room = room }) b).place ≡ Ok More
+    → (fed_at place ≡ Ok More) × (body_left (after_byte
+    (record { place = place; room = room }) b) + 1 ≤ room * 300001 + framing_left place)
 byte_nearer place room b = by_test (is_content place) refl
   where
-    by_test : (t : Bool) → is_content place ≡ t → Nears place room (after_byte (record { place = place; room = room }) b)
+    by_test : (t : Bool) → is_content place ≡ t
+        → Nears place room (after_byte (record { place = place; room = room }) b)
     by_test false e = rw e (λ h. (was_more place b h, omega (arith, framing_lower place b e h)))
     by_test true e = rw e (by_room (room == 0) refl)
       where
@@ -156,11 +190,15 @@ bytes_nearer body (x ∷ xs) h =
 
 -- from phase to phase
 pub nearer_by : (old now : ReplyReader) (n : ℕ) (p q : Phase) → old.phase ≡ p → now.phase ≡ q
-    → (fed_by q ≡ Ok More → (fed_by p ≡ Ok More) × (left_by q now.limit now.front.items + n ≤ left_by p old.limit old.front.items))
+    → (fed_by q ≡ Ok More → (fed_by p ≡ Ok More)
+    × (left_by q now.limit now.front.items + n ≤ left_by p old.limit old.front.items))
     → IsNearer old now n
 nearer_by old now n p q was is step = λ h.
-    let s = step (ap fed_by (sym is) ∙ h) in
-    (ap fed_by was ∙ s.0, subst (λ k. left_by k now.limit now.front.items + n ≤ left_of old) (sym is) (subst (λ k. left_by q now.limit now.front.items + n ≤ left_by k old.limit old.front.items) (sym was) s.1))
+    let s = step (ap fed_by (sym is) ∙ h) in (
+      ap fed_by was ∙ s.0,
+      subst (λ k. left_by k now.limit now.front.items + n ≤ left_of old) (sym is) (subst
+          (λ k. left_by q now.limit now.front.items + n ≤ left_by k old.limit old.front.items) (sym was) s.1),
+    )
 
 few_framing : (place : BodyPlace) → framing_left place ≤ 131096
 few_framing UntilClose = omega arith
@@ -181,15 +219,18 @@ start_room limit None = refl
 start_room limit (Some seen) = refl
 
 -- the byte that ends the head
-pub nearer_ends : (old now : ReplyReader) (line : LinePlace) (seen : Option HeadData) → old.phase ≡ InHead line → length old.front.items < 65536
+pub nearer_ends : (old now : ReplyReader) (line : LinePlace) (seen : Option HeadData) → old.phase ≡ InHead line
+    → length old.front.items < 65536
     → now.phase ≡ InBody (body_start old.limit seen) → IsNearer old now 1
 nearer_ends old now line seen was short is =
     nearer_by old now 1 (InHead line) (InBody (body_start old.limit seen)) was is
     (λ h. (refl, omega (arith, short, start_room old.limit seen, few_framing (body_start old.limit seen).place)))
 
 -- any other byte of the head
-pub nearer_goes : (old now : ReplyReader) (line next : LinePlace) → old.phase ≡ InHead line → length old.front.items < 65536
-    → now.phase ≡ InHead next → now.limit ≡ old.limit → length now.front.items ≡ length old.front.items + 1 → IsNearer old now 1
+pub nearer_goes : (old now : ReplyReader) (line next : LinePlace) → old.phase ≡ InHead line
+    → length old.front.items < 65536
+    → now.phase ≡ InHead next → now.limit ≡ old.limit → length now.front.items ≡ length old.front.items + 1
+    → IsNearer old now 1
 nearer_goes old now line next was short is same long =
     nearer_by old now 1 (InHead line) (InHead next) was is (λ h. (refl, omega (arith, short, same, long)))
 

@@ -15,44 +15,61 @@ use Rattle.http_wire.proofs.Runs.{of-append}
 use Rattle.http_wire.proofs.SplitFacts.{split-append, behind_by}
 use Rattle.http_wire.proofs.ReaderFacts.{behind_more, in_body}
 
-pub parts_err : {T E : Type 0} (old : ReplyReader) (piece into_old into_new : Bytes) (result : Result T E) → GivesParts old piece into_old into_new → OnErr result (GivesParts old piece into_old into_new)
+pub parts_err : {T E : Type 0} (old : ReplyReader) (piece into_old into_new : Bytes) (result : Result T E)
+    → GivesParts old piece into_old into_new → OnErr result (GivesParts old piece into_old into_new)
 parts_err old piece into_old into_new (Ok x) p = tt
 parts_err old piece into_old into_new (Err e) p = p
 
-outcome_unique : (limit : ℕ) (split : Split) (one two : Option HeadData) → IsSeen split one → IsSeen split two → outcome_by limit split one ≡ outcome_by limit split two
+outcome_unique : (limit : ℕ) (split : Split) (one two : Option HeadData) → IsSeen split one → IsSeen split two
+    → outcome_by limit split one ≡ outcome_by limit split two
 outcome_unique limit (in_head line front) one two a b = refl
 outcome_unique limit no_head one two a b = refl
-outcome_unique limit (behind_head front rest) one two a b = ap (λ seen. outcome_by limit (behind_head front rest) seen) (head_unique front one two a b)
+outcome_unique limit (behind_head front rest) one two a b = ap (λ seen. outcome_by limit
+    (behind_head front rest) seen) (head_unique front one two a b)
 
-pub one_law : (limit : ℕ) (bytes : Bytes) (one two : Outcome) → IsOutcome limit bytes one → IsOutcome limit bytes two → one ≡ two
+pub one_law : (limit : ℕ) (bytes : Bytes) (one two : Outcome) → IsOutcome limit bytes one
+    → IsOutcome limit bytes two → one ≡ two
 one_law limit bytes one two a b = a.2 ∙ outcome_unique limit (split_of bytes) a.0 b.0 a.1 b.1 ∙ sym b.2
 
-pub read_law : (reader : ReplyReader) (limit : ℕ) (bytes : Bytes) (outcome : Outcome) → HasRead reader limit bytes outcome → IsOutcome limit bytes outcome
+pub read_law : (reader : ReplyReader) (limit : ℕ) (bytes : Bytes) (outcome : Outcome)
+    → HasRead reader limit bytes outcome → IsOutcome limit bytes outcome
 read_law reader limit bytes outcome h = (h.seen, h.is_seen, h.outcome_is)
 
-grows_by : (limit : ℕ) (split : Split) (one two : Option HeadData) (xs : Bytes) → IsSeen split one → IsSeen (split_from split xs) two
-    → (more : Bytes) × ((outcome_by limit (split_from split xs) two).content ≡ (outcome_by limit split one).content ++ more)
-grows_by limit (in_head line front) one two xs a b = ((outcome_by limit (split_from (in_head line front) xs) two).content, refl)
+grows_by : (limit : ℕ) (split : Split) (one two : Option HeadData) (xs : Bytes) → IsSeen split one
+    → IsSeen (split_from split xs) two
+    → (more : Bytes) × ((outcome_by limit (split_from split xs) two).content ≡ (outcome_by limit split one).content
+    ++ more)
+grows_by limit (in_head line front) one two xs a b = (
+  (outcome_by limit (split_from
+      (in_head line front) xs) two).content,
+  refl,
+)
 grows_by limit no_head one two xs a b = ((outcome_by limit (split_from no_head xs) two).content, refl)
 grows_by limit (behind_head front rest) one two xs a b =
     let e = behind_by front rest xs in
     let same : one ≡ two = head_unique front one two a (subst (λ k. IsSeen k two) e b) in
-    let start = body_start limit one in
-    (content_of (after_bytes start rest) xs,
-    ap (λ k. (outcome_by limit k two).content) e
-    ∙ ap (λ seen. (outcome_by limit (behind_head front (rest ++ xs)) seen).content) (sym same)
-    ∙ of-append start rest xs)
+    let start = body_start limit one in (
+      content_of (after_bytes start rest) xs,
+      ap (λ k. (outcome_by limit k two).content) e
+          ∙ ap (λ seen. (outcome_by limit (behind_head front (rest ++ xs)) seen).content) (sym same)
+          ∙ of-append start rest xs,
+    )
 
 -- the content of what was read goes on, whatever follows
-pub grows : (reader : ReplyReader) (limit : ℕ) (bytes xs : Bytes) (before after : Outcome) → HasRead reader limit bytes before → IsOutcome limit (bytes ++ xs) after
+pub grows : (reader : ReplyReader) (limit : ℕ) (bytes xs : Bytes) (before after : Outcome)
+    → HasRead reader limit bytes before → IsOutcome limit (bytes ++ xs) after
     → (more : Bytes) × (after.content ≡ before.content ++ more)
 grows reader limit bytes xs before after h o =
     let e = split-append (in_head Leading []) bytes xs in
-    let on = grows_by limit (split_of bytes) h.seen o.0 xs h.is_seen (subst (λ k. IsSeen k o.0) e o.1) in
-    (on.0, ap (λ k. k.content) (o.2 ∙ ap (λ k. outcome_by limit k o.0) e) ∙ on.1 ∙ ap (λ k. k.content ++ on.0) (sym h.outcome_is))
+    let on = grows_by limit (split_of bytes) h.seen o.0 xs h.is_seen (subst (λ k. IsSeen k o.0) e o.1) in (
+      on.0,
+      ap (λ k. k.content) (o.2 ∙ ap (λ k. outcome_by limit k o.0) e) ∙ on.1
+          ∙ ap (λ k. k.content ++ on.0) (sym h.outcome_is),
+    )
 
 -- nothing was appended
-pub part_none : (reader : ReplyReader) (limit : ℕ) (bytes piece into : Bytes) (before after : Outcome) → HasRead reader limit bytes before → IsOutcome limit (bytes ++ piece) after
+pub part_none : (reader : ReplyReader) (limit : ℕ) (bytes piece into : Bytes) (before after : Outcome)
+    → HasRead reader limit bytes before → IsOutcome limit (bytes ++ piece) after
     → GivesPart before.content after.content into into
 part_none reader limit bytes piece into before after h o =
     let on = grows reader limit bytes piece before after h o in
@@ -60,7 +77,8 @@ part_none reader limit bytes piece into before after h o =
 
 -- all was appended
 pub part_all : (old now : ReplyReader) (limit : ℕ) (bytes piece into_old into_new : Bytes) (before after : Outcome)
-    → Reads old now limit bytes piece before into_old into_new → IsOutcome limit (bytes ++ piece) after → GivesPart before.content after.content into_old into_new
+    → Reads old now limit bytes piece before into_old into_new → IsOutcome limit (bytes ++ piece) after
+    → GivesPart before.content after.content into_old into_new
 part_all old now limit bytes piece into_old into_new before after r o =
     let same = one_law limit (bytes ++ piece) after r.after o (read_law now limit (bytes ++ piece) r.after r.read) in
     record {
@@ -72,11 +90,14 @@ part_all old now limit bytes piece into_old into_new before after r o =
     }
 
 -- some of the content of a piece was appended
-pub part_body : (reader : ReplyReader) (limit : ℕ) (bytes piece into_old into_new rest : Bytes) (before after : Outcome) (body : BodyState)
+pub part_body : (reader : ReplyReader) (limit : ℕ) (bytes piece into_old into_new rest : Bytes)
+    (before after : Outcome) (body : BodyState)
     → HasRead reader limit bytes before → reader.phase ≡ InBody body → IsOutcome limit (bytes ++ piece) after
-    → into_new ++ rest ≡ into_old ++ content_of body piece → length into_old ≤ length into_new → GivesPart before.content after.content into_old into_new
+    → into_new ++ rest ≡ into_old ++ content_of body piece → length into_old ≤ length into_new
+    → GivesPart before.content after.content into_old into_new
 part_body reader limit bytes piece into_old into_new rest before after body h was o gives kept =
-    let on = behind_more limit (split_of bytes) body h.seen piece (in_body reader limit bytes before body h was) h.is_seen in
+    let on = behind_more limit (split_of bytes) body h.seen piece
+    (in_body reader limit bytes before body h was) h.is_seen in
     let e = split-append (in_head Leading []) bytes piece in
     let whole : IsOutcome limit (bytes ++ piece) (outcome_by limit (split_from (split_of bytes) piece) h.seen) =
     (h.seen, subst (λ k. IsSeen k h.seen) (sym e) on.is_seen, ap (λ k. outcome_by limit k h.seen) (sym e)) in
@@ -90,8 +111,10 @@ part_body reader limit bytes piece into_old into_new rest before after body h wa
     }
 
 -- all of one piece and some of the next
-pub part_then : (old mid : ReplyReader) (limit : ℕ) (bytes xs into_old into_mid into_new : Bytes) (before : Outcome) (after : Bytes)
-    → (r : Reads old mid limit bytes xs before into_old into_mid) → GivesPart r.after.content after into_mid into_new → GivesPart before.content after into_old into_new
+pub part_then : (old mid : ReplyReader) (limit : ℕ) (bytes xs into_old into_mid into_new : Bytes) (before : Outcome)
+    (after : Bytes)
+    → (r : Reads old mid limit bytes xs before into_old into_mid)
+    → GivesPart r.after.content after into_mid into_new → GivesPart before.content after into_old into_new
 part_then old mid limit bytes xs into_old into_mid into_new before after r p =
     record {
       more = r.more ++ p.more;

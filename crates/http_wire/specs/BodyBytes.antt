@@ -9,12 +9,19 @@ use Rattle.http_wire.specs.BodyPlaces.{is_content, after_content, after_framing}
 -- behind a byte of content, where the limit has this room
 abbrev pub after_content_byte : BodyPlace → ℕ → BodyState
 after_content_byte place room =
-    if room == 0 then record { place = Refused BodyTooLong; room = 0 } else record { place = after_content place 1; room = room - 1 }
+    if room == 0 then record { place = Refused BodyTooLong; room = 0 } else record {
+      place = after_content place 1;
+      room = room - 1;
+    }
 
 -- behind a byte
 abbrev pub after_byte : BodyState → ℕ → BodyState
 after_byte body b =
-    if is_content body.place then after_content_byte body.place body.room else record { place = after_framing body.place b; room = body.room }
+    if is_content body.place then after_content_byte body.place body.room else record {
+      place = after_framing
+          body.place b;
+      room = body.room;
+    }
 
 -- the byte, where it is content for which there is room
 abbrev pub content_byte : BodyState → ℕ → List ℕ

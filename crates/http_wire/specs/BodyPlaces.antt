@@ -36,7 +36,8 @@ within_line n place = if nat_le (n + 2) line_limit then place else Refused BadCh
 abbrev pub after_size : ℕ → ℕ → ℕ → BodyPlace
 after_size size n b =
     if (b == 32) || (b == 9) then within_line n (ChunkSpace size n)
-    else (if b == 59 then within_line n (ChunkExtension size n) else (if b == 13 then ChunkLineFeed size else Refused BadChunk))
+    else (if b == 59 then within_line n (ChunkExtension size n) else
+    (if b == 13 then ChunkLineFeed size else Refused BadChunk))
 
 -- at a place in the lines of a trailer, of which n bytes were read
 abbrev pub trailer_place : ℕ → Option LinePlace → BodyPlace
@@ -46,7 +47,8 @@ trailer_place n (Some line) = if nat_le (n + least_left line) line_limit then Tr
 -- behind a byte in an extension, of which no byte ends a line; n bytes of the line were read
 abbrev pub after_extension : ℕ → ℕ → ℕ → BodyPlace
 after_extension size n b =
-    if b == 13 then ChunkLineFeed size else (if b == 10 then Refused BadChunk else within_line n (ChunkExtension size n))
+    if b == 13 then ChunkLineFeed size else (if b == 10 then Refused BadChunk else within_line n
+    (ChunkExtension size n))
 
 -- behind a byte in a size, which has 1 to 16 digits
 abbrev pub after_digit : ℕ → ℕ → ℕ → BodyPlace

@@ -19,7 +19,7 @@ abbrev pub place_by_fields : List (Bytes × Bytes) → BodyPlace
 place_by_fields fields =
     if is_encoded (field_values (codes "content-encoding") fields) then Refused Encoded
     else place_by_coding (codings_from NoCoding (field_values (codes "transfer-encoding") fields))
-      (place_by_length (lengths_from NoLength (field_values (codes "content-length") fields)))
+    (place_by_length (lengths_from NoLength (field_values (codes "content-length") fields)))
 
 -- a reply of another status than 200 ends with its head
 abbrev pub body_place : HeadData → BodyPlace

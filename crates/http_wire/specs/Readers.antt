@@ -72,7 +72,8 @@ abbrev pub IsNearer : ReplyReader → ReplyReader → ℕ → Type 0
 IsNearer old now n = fed_by now.phase ≡ Ok More → (fed_by old.phase ≡ Ok More) × (left_of now + n ≤ left_of old)
 
 -- a piece was read behind the bytes before it, and the content that it adds was appended
-pub record Reads (old now : ReplyReader) (limit : ℕ) (bytes piece : Bytes) (before : Outcome) (into_old into_new : Bytes) : Type 0 where
+pub record Reads (old now : ReplyReader) (limit : ℕ) (bytes piece : Bytes) (before : Outcome)
+    (into_old into_new : Bytes) : Type 0 where
   pub after : Outcome
   pub read : HasRead now limit (bytes ++ piece) after
   pub more : Bytes
@@ -82,7 +83,8 @@ pub record Reads (old now : ReplyReader) (limit : ℕ) (bytes piece : Bytes) (be
   pub nearer : IsNearer old now (length piece)
 
 -- the same, this is answered, and where more may come there is less of it
-pub record Feeds (old now : ReplyReader) (limit : ℕ) (bytes piece : Bytes) (before : Outcome) (into_old into_new : Bytes) (result : Result Fed ReplyErr) : Type 0 where
+pub record Feeds (old now : ReplyReader) (limit : ℕ) (bytes piece : Bytes) (before : Outcome)
+    (into_old into_new : Bytes) (result : Result Fed ReplyErr) : Type 0 where
   pub after : Outcome
   pub read : HasRead now limit (bytes ++ piece) after
   pub answer : result ≡ after.fed
@@ -103,5 +105,6 @@ pub record GivesPart (before after into_old into_new : Bytes) : Type 0 where
 -- so it is for a piece, whatever was read before
 abbrev pub GivesParts : ReplyReader → Bytes → Bytes → Bytes → Type 0
 GivesParts old piece into_old into_new =
-    (limit : ℕ) (bytes : Bytes) (before after : Outcome) → HasRead old limit bytes before → IsOutcome limit (bytes ++ piece) after
+    (limit : ℕ) (bytes : Bytes) (before after : Outcome) → HasRead old limit bytes before
+    → IsOutcome limit (bytes ++ piece) after
     → GivesPart before.content after.content into_old into_new

@@ -12,7 +12,8 @@ request_middle = codes " HTTP/1.1" ++ (13 ∷ 10 ∷ codes "Host: ")
 -- behind the authority
 abbrev pub request_end : List ℕ
 request_end =
-    13 ∷ 10 ∷ (codes "Accept: */*" ++ (13 ∷ 10 ∷ (codes "Accept-Encoding: identity" ++ (13 ∷ 10 ∷ (codes "Connection: close" ++ (13 ∷ 10 ∷ 13 ∷ 10 ∷ []))))))
+    13 ∷ 10 ∷ (codes "Accept: */*" ++ (13 ∷ 10 ∷ (codes "Accept-Encoding: identity"
+    ++ (13 ∷ 10 ∷ (codes "Connection: close" ++ (13 ∷ 10 ∷ 13 ∷ 10 ∷ []))))))
 
 -- the bytes that ask an authority for a target
 abbrev pub request_of : List ℕ → List ℕ → List ℕ

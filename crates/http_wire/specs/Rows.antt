@@ -51,7 +51,8 @@ size_without_digits : fed_at (after_bytes (chunked 9) ends).place ≡ Err BadChu
 size_without_digits = refl
 
 -- white space and an extension behind a size, a trailer behind the last chunk, and bytes behind the body
-extended : content_of (chunked 9) (codes "3 ;x" ++ ends ++ codes "abc" ++ ends ++ codes "0" ++ ends ++ codes "T" ++ ends ++ ends ++ codes "r") ≡ codes "abc"
+extended : content_of (chunked 9) (codes "3 ;x" ++ ends ++ codes "abc" ++ ends ++ codes "0" ++ ends ++ codes "T"
+    ++ ends ++ ends ++ codes "r") ≡ codes "abc"
 extended = refl
 
 -- the limit counts content alone, and only where a further byte of it stands
@@ -81,19 +82,23 @@ one_length = refl
 no_content : place_by_fields (field (codes "content-length") (codes "0") ∷ []) ≡ Whole
 no_content = refl
 
-two_lengths : place_by_fields (field (codes "Content-Length") (codes "3") ∷ field (codes "content-length") (codes "4") ∷ []) ≡ Refused BadLength
+two_lengths : place_by_fields (field (codes "Content-Length") (codes "3") ∷ field (codes "content-length")
+    (codes "4") ∷ []) ≡ Refused BadLength
 two_lengths = refl
 
-same_twice : place_by_fields (field (codes "Content-Length") (codes "3") ∷ field (codes "content-length") (codes "03") ∷ []) ≡ ContentLeft 3
+same_twice : place_by_fields (field (codes "Content-Length") (codes "3") ∷ field (codes "content-length")
+    (codes "03") ∷ []) ≡ ContentLeft 3
 same_twice = refl
 
-coding_before_length : place_by_fields (field (codes "Content-Length") (codes "3") ∷ field (codes "Transfer-Encoding") (codes "Chunked") ∷ []) ≡ ChunkSize 0 0
+coding_before_length : place_by_fields (field (codes "Content-Length") (codes "3") ∷ field
+    (codes "Transfer-Encoding") (codes "Chunked") ∷ []) ≡ ChunkSize 0 0
 coding_before_length = refl
 
 other_coding : place_by_fields (field (codes "Transfer-Encoding") (codes "gzip, chunked") ∷ []) ≡ Refused BadLength
 other_coding = refl
 
-encoded_first : place_by_fields (field (codes "Transfer-Encoding") (codes "x") ∷ field (codes "Content-Encoding") (codes "gzip") ∷ []) ≡ Refused Encoded
+encoded_first : place_by_fields (field (codes "Transfer-Encoding") (codes "x") ∷ field (codes "Content-Encoding")
+    (codes "gzip") ∷ []) ≡ Refused Encoded
 encoded_first = refl
 
 not_found : body_place (record { status = 404; fields = field (codes "Content-Length") (codes "x") ∷ [] }) ≡ Whole

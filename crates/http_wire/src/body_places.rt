@@ -177,8 +177,11 @@ impl BodyPlace {
             BodyPlace::DataReturn => if_byte(byte, b'\r', BodyPlace::DataLineFeed),
             BodyPlace::DataLineFeed => if_byte(byte, b'\n', BodyPlace::ChunkSize(0, 0)),
             BodyPlace::Trailer(line, read) => trailer_place(read + 1, line.after(byte)),
-            BodyPlace::UntilClose | BodyPlace::ContentLeft(_) | BodyPlace::ChunkData(_) | BodyPlace::Whole | BodyPlace::Refused(_) =>
-                self,
+            BodyPlace::UntilClose
+            | BodyPlace::ContentLeft(_)
+            | BodyPlace::ChunkData(_)
+            | BodyPlace::Whole
+            | BodyPlace::Refused(_) => self,
         }
     }
 

@@ -25,7 +25,8 @@ impl BodyState {
         ensures range { InRange self.new.place }
         ensures forth { IfOk result (λ n. (0 < n) × (n ≤ length piece.now)) }
         ensures after { IfOk result (λ n. after_bytes self.new (drop n piece.now) ≡ after_bytes self.old piece.now) }
-        ensures given { IfOk result (λ n. into.new.items ++ content_of self.new (drop n piece.now) ≡ into.old.items ++ content_of self.old piece.now) }
+        ensures given { IfOk result (λ n. into.new.items ++ content_of self.new (drop n piece.now) ≡ into.old.items
+            ++ content_of self.old piece.now) }
         ensures grows { length into.old.items ≤ length into.new.items }
         ensures err { OnErr result (into.new.items ≡ into.old.items) }
     {
@@ -64,7 +65,8 @@ impl BodyState {
         ensures range { InRange self.new.place }
         ensures forth { IfOk result (λ n. (0 < n) × (n ≤ length piece.now)) }
         ensures after { IfOk result (λ n. after_bytes self.new (drop n piece.now) ≡ after_bytes self.old piece.now) }
-        ensures given { IfOk result (λ n. into.new.items ++ content_of self.new (drop n piece.now) ≡ into.old.items ++ content_of self.old piece.now) }
+        ensures given { IfOk result (λ n. into.new.items ++ content_of self.new (drop n piece.now) ≡ into.old.items
+            ++ content_of self.old piece.now) }
         ensures grows { length into.old.items ≤ length into.new.items }
         ensures err { OnErr result (into.new.items ≡ into.old.items) }
     {
@@ -80,7 +82,8 @@ impl BodyState {
         ensures range { InRange self.new.place }
         ensures ok { OnOk result (self.new ≡ after_bytes self.old piece.now) }
         ensures given { OnOk result (into.new.items ≡ into.old.items ++ content_of self.old piece.now) }
-        ensures part { OnErr result ((rest : List ℕ) × (into.new.items ++ rest ≡ into.old.items ++ content_of self.old piece.now)) }
+        ensures part { OnErr result ((rest : List ℕ) × (into.new.items ++ rest ≡ into.old.items
+            ++ content_of self.old piece.now)) }
         ensures kept { OnErr result (length into.old.items ≤ length into.new.items) }
     {
         let mut at = 0;

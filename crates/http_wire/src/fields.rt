@@ -89,7 +89,13 @@ impl LengthSaid {
             },
             LengthSaid::Exactly(n) => match decimal(value) {
                 None => LengthSaid::Invalid,
-                Some(m) => { if m == n { LengthSaid::Exactly(n) } else { LengthSaid::Invalid } }
+                Some(m) => {
+                    if m == n {
+                        LengthSaid::Exactly(n)
+                    } else {
+                        LengthSaid::Invalid
+                    }
+                }
             },
             LengthSaid::Invalid => LengthSaid::Invalid,
         }
@@ -111,7 +117,8 @@ impl LengthSaid {
 /// What Content-Length says, this field counted.
 fn length_with(said: LengthSaid, front: &[u8], field: &HeaderSpan) -> LengthSaid
     requires { IsHeaderWithin (length front.now) field.now }
-    ensures { result ≡ length_if (is_name (codes "content-length") (header_bytes front.now field.now).0) said (header_bytes front.now field.now).1 }
+    ensures { result ≡ length_if (is_name (codes "content-length") (header_bytes front.now field.now).0) said
+        (header_bytes front.now field.now).1 }
 {
     if is_name("content-length", field.name.of(front)) {
         said.and(field.value.of(front))
@@ -124,7 +131,8 @@ fn length_with(said: LengthSaid, front: &[u8], field: &HeaderSpan) -> LengthSaid
 #[tactic(auto, using(crate::proofs::FieldFacts::length_first))]
 fn length_said(front: &[u8], fields: &[HeaderSpan]) -> LengthSaid
     requires { All (IsHeaderWithin (length front.now)) fields.now }
-    ensures { result ≡ lengths_from LengthSaid.NoLength (field_values (codes "content-length") (map (header_bytes front.now) fields.now)) }
+    ensures { result ≡ lengths_from LengthSaid.NoLength (field_values (codes "content-length") (map
+        (header_bytes front.now) fields.now)) }
 {
     let mut said = LengthSaid::NoLength;
     for field in fields {
@@ -165,7 +173,8 @@ impl TransferCoding {
 /// What Transfer-Encoding says, this field counted.
 fn coding_with(coding: TransferCoding, front: &[u8], field: &HeaderSpan) -> TransferCoding
     requires { IsHeaderWithin (length front.now) field.now }
-    ensures { result ≡ coding_if (is_name (codes "transfer-encoding") (header_bytes front.now field.now).0) coding (header_bytes front.now field.now).1 }
+    ensures { result ≡ coding_if (is_name (codes "transfer-encoding") (header_bytes front.now field.now).0) coding
+        (header_bytes front.now field.now).1 }
 {
     if is_name("transfer-encoding", field.name.of(front)) {
         coding.and(field.value.of(front))
@@ -178,7 +187,8 @@ fn coding_with(coding: TransferCoding, front: &[u8], field: &HeaderSpan) -> Tran
 #[tactic(auto, using(crate::proofs::FieldFacts::coding_first))]
 fn coding_said(front: &[u8], fields: &[HeaderSpan]) -> TransferCoding
     requires { All (IsHeaderWithin (length front.now)) fields.now }
-    ensures { result ≡ codings_from TransferCoding.NoCoding (field_values (codes "transfer-encoding") (map (header_bytes front.now) fields.now)) }
+    ensures { result ≡ codings_from TransferCoding.NoCoding (field_values (codes "transfer-encoding") (map
+        (header_bytes front.now) fields.now)) }
 {
     let mut coding = TransferCoding::NoCoding;
     for field in fields {

@@ -65,7 +65,8 @@ impl ReplyReader {
 
     /// The head has ended.
     fn begin_body(&mut self, alloc: Global) -> Result<(), NoMemory>
-        ensures begun { OnOk result ((seen : Option HeadData) × IsHeadOf self.old.front.items seen × IsShown seen self.new.head × (self.new.phase ≡ Phase.InBody (body_start self.old.limit seen))) }
+        ensures begun { OnOk result ((seen : Option HeadData) × IsHeadOf self.old.front.items seen
+            × IsShown seen self.new.head × (self.new.phase ≡ Phase.InBody (body_start self.old.limit seen))) }
         ensures limit { OnOk result (self.new.limit ≡ self.old.limit) }
     {
         match parse_head(alloc, self.front.as_slice())? {
@@ -115,7 +116,8 @@ impl ReplyReader {
         ensures within { IfOk result (λ n. n ≤ length piece.now) }
         ensures ends { IfOk result (λ n. n < length piece.now → IsInBody self.new.phase) }
         ensures reads { IfOk result (λ n. (limit : ℕ) (bytes : Bytes) (before : Outcome)
-            → HasRead self.old limit bytes before → Reads self.old self.new limit bytes (take n piece.now) before [] []) }
+            → HasRead self.old limit bytes before
+            → Reads self.old self.new limit bytes (take n piece.now) before [] []) }
     {
         let mut at = 0;
         while at < piece.len() {
@@ -132,7 +134,8 @@ impl ReplyReader {
     fn take_body(&mut self, piece: &[u8], into: &mut Vec<u8>) -> Result<(), AllocError>
         requires { 0 < length piece.now → IsInBody self.old.phase }
         ensures reads { OnOk result ((limit : ℕ) (bytes : Bytes) (before : Outcome)
-            → HasRead self.old limit bytes before → Reads self.old self.new limit bytes piece.now before into.old.items into.new.items) }
+            → HasRead self.old limit bytes before
+            → Reads self.old self.new limit bytes piece.now before into.old.items into.new.items) }
         ensures part { OnErr result (GivesParts self.old piece.now into.old.items into.new.items) }
     {
         match self.phase {
@@ -148,7 +151,8 @@ impl ReplyReader {
     /// Takes a piece.
     fn take(&mut self, alloc: Global, piece: &[u8], into: &mut Vec<u8>) -> Result<(), NoMemory>
         ensures reads { OnOk result ((limit : ℕ) (bytes : Bytes) (before : Outcome)
-            → HasRead self.old limit bytes before → Reads self.old self.new limit bytes piece.now before into.old.items into.new.items) }
+            → HasRead self.old limit bytes before
+            → Reads self.old self.new limit bytes piece.now before into.old.items into.new.items) }
         ensures part { OnErr result (GivesParts self.old piece.now into.old.items into.new.items) }
     {
         let count = self.take_head(alloc, piece)?;

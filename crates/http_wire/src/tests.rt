@@ -3,12 +3,19 @@ use crate::{ReplyErr, ReplyReader, request_bytes};
 use std::alloc::Global;
 use std::test::Fail;
 
-const CHUNKED: &[u8] = b"HTTP/1.1 200 OK\r\nTransfer-Encoding: chunked\r\n\r\n3\r\nabc\r\n0\r\n\r\n";
+const CHUNKED: &[u8] =
+    b"HTTP/1.1 200 OK\r\nTransfer-Encoding: chunked\r\n\r\n3\r\nabc\r\n0\r\n\r\n";
+
 const ENDED_EARLY: &[u8] = b"HTTP/1.1 200 OK\r\nContent-Length: 4\r\n\r\nabc";
+
 const TWO_LENGTHS: &[u8] = b"HTTP/1.1 200 OK\r\nContent-Length: 3\r\nContent-Length: 4\r\n\r\nabc";
+
 const ENCODED: &[u8] = b"HTTP/1.1 200 OK\r\nContent-Encoding: gzip\r\n\r\nabc";
+
 const UNTIL_CLOSE: &[u8] = b"\nHTTP/1.1 200 OK\nA: b\n\nabc";
+
 const FOUR_DIGITS: &[u8] = b"HTTP/1.1 2000 OK\r\n\r\nabc";
+
 const NOT_FOUND: &[u8] = b"HTTP/1.1 404 Not Found\r\nContent-Length: x\r\n\r\nabc";
 
 /// What a reply gives that comes in pieces of this size and then ends.
@@ -60,7 +67,8 @@ fn replies_are_read_for_every_cut(rt: HostRuntime) -> Result<(), Fail> {
 fn a_head_is_handed_out(rt: HostRuntime) -> Result<(), Fail> {
     let alloc = rt.alloc();
     let request = request_bytes(alloc, "r1:8080", "/a")?;
-    let wanted = b"GET /a HTTP/1.1\r\nHost: r1:8080\r\nAccept: */*\r\nAccept-Encoding: identity\r\nConnection: close\r\n\r\n";
+    let wanted =
+        b"GET /a HTTP/1.1\r\nHost: r1:8080\r\nAccept: */*\r\nAccept-Encoding: identity\r\nConnection: close\r\n\r\n";
     assert!(rt; request.as_slice() == wanted.as_slice());
     let mut reader = ReplyReader::new(alloc, 9);
     let mut content = Vec::new(alloc);

@@ -7,5 +7,6 @@ use Rattle.http_wire.proofs.fields.coding_said.Given as goal
 
 abbrev pub invariant-loop-field : goal.invariant-loop-field
 invariant-loop-field l =
-    codings_from l.coding (field_values (codes "transfer-encoding") (map (header_bytes l.front) (drop l.field-index l.fields)))
+    codings_from l.coding (field_values (codes "transfer-encoding") (map (header_bytes l.front)
+    (drop l.field-index l.fields)))
     ≡ codings_from NoCoding (field_values (codes "transfer-encoding") (map (header_bytes l.front) l.fields))

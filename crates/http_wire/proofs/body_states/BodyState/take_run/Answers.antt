@@ -17,13 +17,15 @@ returns-then-self-eq0-clause-given c =
     let body = c.args.self.now in
     let xs = c.args.piece.now in
     ap (λ more. c.args.into.now.items ++ more)
-    (refused_of BodyTooLong body.room (drop (length xs) xs) ∙ sym (no_room_of body xs c.if-self-eq0.true c.requires.in_file c.requires.bytes))
+    (refused_of BodyTooLong body.room (drop (length xs) xs)
+    ∙ sym (no_room_of body xs c.if-self-eq0.true c.requires.in_file c.requires.bytes))
 
 pub returns-clause-after : goal.returns-clause-after
 returns-clause-after c =
     rw c.after_content-self.ensures.value
     (taken_after c.args.self.now c.args.run c.min-count.result c.args.piece.now c.requires.range c.requires.runs
-    (omega (arith, c.min.ensures, c.min-count.ensures)) (omega (arith, c.min.ensures, c.min-count.ensures)) (omega (arith, c.min-count.ensures)))
+    (omega (arith, c.min.ensures, c.min-count.ensures)) (omega (arith, c.min.ensures, c.min-count.ensures)) (omega
+    (arith, c.min-count.ensures)))
 
 pub returns-clause-given : goal.returns-clause-given
 returns-clause-given c =
@@ -31,4 +33,5 @@ returns-clause-given c =
     (append_assoc c.args.into.now.items (take c.min-count.result c.args.piece.now) _
     ∙ ap (λ more. c.args.into.now.items ++ more)
     (taken_of c.args.self.now c.args.run c.min-count.result c.args.piece.now c.requires.range c.requires.runs
-    (omega (arith, c.min.ensures, c.min-count.ensures)) (omega (arith, c.min.ensures, c.min-count.ensures)) (omega (arith, c.min-count.ensures))))
+    (omega (arith, c.min.ensures, c.min-count.ensures)) (omega (arith, c.min.ensures, c.min-count.ensures)) (omega
+    (arith, c.min-count.ensures))))

@@ -17,6 +17,8 @@ loop-at-preserved c = record {
       let r = c.loop-at.invariant.reads limit bytes before h in
       let at = c.loop-at.at in
       let xs = c.args.piece.now in
-      subst (λ p. Reads c.args.self.now c.take_byte.new.self limit bytes p before [] []) (sym (take_more xs at 0 c.loop-at-test.true))
-      (reads_then c.args.self.now c.loop-at.self c.take_byte.new.self limit bytes (take at xs) _ [] [] [] before r (c.in_ok-take_byte.ensures limit _ r.after r.read));
+      subst (λ p. Reads c.args.self.now c.take_byte.new.self limit bytes p before [] []) (sym
+      (take_more xs at 0 c.loop-at-test.true))
+      (reads_then c.args.self.now c.loop-at.self c.take_byte.new.self limit bytes (take at xs) _ [] [] [] before r
+      (c.in_ok-take_byte.ensures limit _ r.after r.read));
 }
