@@ -1,5 +1,0 @@
-pub mod HearFacts
-pub mod KnownFacts
-pub mod PageFacts
-pub mod PieceFacts
-pub mod VisitFacts
