@@ -1,4 +1,0 @@
-//! Commands of tables of cases over HTTP.
-#![tactic(auto)]
-
-pub mod replies;
