@@ -1,5 +1,5 @@
 -- A reply is refused for its length only where as much content as the limit has come.
-use Rattle.std.proofs.Common.{◌≡◌, ℕ, ◌+◌, Bool, true, false, [], ◌∷◌, length, Option, Some, None, Result, Ok, Err, refl, sym, ap, ◌∙◌, subst, arith, if◌then◌else◌, ◌==◌, ◌*◌, nat_le, nat_lt, ◌&&◌, ◌||◌, List, codes}
+use Rattle.std.proofs.Common.{◌≡◌, ℕ, ◌+◌, Bool, true, false, [], ◌∷◌, length, Option, Some, None, Result, Ok, Err, refl, sym, subst, arith, if◌then◌else◌, ◌==◌, ◌*◌, nat_le, nat_lt, ◌&&◌, ◌||◌, List, codes}
 use Rattle.std.specs.Char.{is_ascii_hexdigit, digit_value}
 use Rattle.std.proofs.lemmas.Bool.{false≢true}
 use Rattle.http_wire.specs.declared.line_places.LinePlace.{LinePlace}
@@ -15,9 +15,9 @@ use Rattle.http_wire.specs.declared.replies.Fed.{Fed}
 use Rattle.http_wire.specs.declared.replies.ReplyErr.{ReplyErr}
 use Rattle.http_wire.specs.declared.replies.ReplyErr.TheVariants.{BadHead, HeadTooLong, BadLength, BadChunk, Encoded, EndedEarly, BodyTooLong, NoMemory}
 use Rattle.http_wire.specs.LinePlaces.{next_line_place, least_left}
-use Rattle.http_wire.specs.BodyPlaces.{content_left, data_left, data_begun, within_line, after_size, trailer_place, after_extension, after_digit, if_byte, is_content, after_content, after_framing, fed_at, closed_at}
-use Rattle.http_wire.specs.BodyBytes.{after_content_byte, after_byte, after_bytes, content_of}
-use Rattle.http_wire.specs.BodyStarts.{HeadData, body_place, place_by_fields}
+use Rattle.http_wire.specs.BodyPlaces.{content_left, data_left, data_begun, within_line, after_size, trailer_place, after_extension, after_digit, is_content, after_content, after_framing, fed_at, closed_at}
+use Rattle.http_wire.specs.BodyBytes.{after_content_byte, after_byte, after_bytes}
+use Rattle.http_wire.specs.BodyStarts.{HeadData, place_by_fields}
 use Rattle.http_wire.specs.Codings.{place_by_coding, codings_from, is_encoded}
 use Rattle.http_wire.specs.ContentLengths.{place_by_length, lengths_from}
 use Rattle.http_wire.specs.Fields.{Bytes, field_values}

@@ -1,5 +1,5 @@
 -- What `httparse` finds is the head of a reply, and the only one.
-use Rattle.std.proofs.Common.{◌≡◌, ◌≤◌, ℕ, List, [], Option, Some, None, refl, sym, ap, ◌∙◌, arith, subst, drop, length, take, map, codes, length-take}
+use Rattle.std.proofs.Common.{◌≡◌, ◌≤◌, List, [], Option, Some, None, refl, sym, ap, ◌∙◌, arith, subst, length, take, map, codes, length-take}
 use Rattle.std.proofs.lemmas.List.{length-map, drop_all}
 use Rattle.httparse.specs.declared.spans.HeaderSpan.{HeaderSpan}
 use Rattle.httparse.specs.declared.spans.ResponseSpans.{ResponseSpans}
@@ -9,7 +9,7 @@ use Rattle.httparse.proofs.GrammarLemmas.{response_unique}
 use Rattle.http_wire.specs.declared.body_places.BodyPlace.{BodyPlace}
 use Rattle.http_wire.specs.BodyStarts.{HeadData, body_place}
 use Rattle.http_wire.specs.Fields.{Bytes, field_values}
-use Rattle.http_wire.specs.Heads.{head_data, IsReplyHead, IsHeadOf, IsParsed, IsLocation}
+use Rattle.http_wire.specs.Heads.{head_data, IsHeadOf, IsParsed, IsLocation}
 
 abbrev pub seen_by : Bytes → List HeaderSpan → ResponseSpans → HeadData
 seen_by buf spans found = record { status = found.code; fields = map (header_bytes buf) (take found.headers spans) }

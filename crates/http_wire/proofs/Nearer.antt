@@ -1,7 +1,7 @@
 -- Each byte brings the end of a reply nearer.
 use Rattle.std.proofs.Common.{◌≡◌, ℕ, ◌<◌, ◌≤◌, ◌+◌, ◌-◌, ◌*◌, Bool, true, false, [], ◌∷◌, length, Option, Some, None, Result, Ok, Err, refl, sym, ap, ◌∙◌, subst, arith, if◌then◌else◌, ◌==◌, nat_le, nat_lt, ◌&&◌, ◌||◌}
 use Rattle.std.specs.Char.{is_ascii_hexdigit, digit_value}
-use Rattle.std.proofs.lemmas.Bool.{and_parts, true≢false, lt-ltb}
+use Rattle.std.proofs.lemmas.Bool.{and_parts, true≢false}
 use Rattle.std.proofs.lemmas.Bool.Decides.{nat_tests}
 use Rattle.http_wire.specs.declared.line_places.LinePlace.{LinePlace}
 use Rattle.http_wire.specs.declared.line_places.LinePlace.TheVariants.{Leading, LeadingReturn, InLine, LineStart, StartReturn}
@@ -20,7 +20,7 @@ use Rattle.http_wire.specs.BodyPlaces.{content_left, data_left, data_begun, with
 use Rattle.http_wire.specs.BodyBytes.{after_content_byte, after_byte, after_bytes}
 use Rattle.http_wire.specs.BodyStarts.{HeadData}
 use Rattle.http_wire.specs.Fields.{Bytes}
-use Rattle.http_wire.specs.Measures.{framing_left, no_content, body_left, left_by, left_of}
+use Rattle.http_wire.specs.Measures.{framing_left, body_left, left_by, left_of}
 use Rattle.http_wire.specs.Outcomes.{IsFinalAnswer, body_start}
 use Rattle.http_wire.specs.Readers.{IsNearer, fed_by, refused_phase}
 

@@ -1,5 +1,5 @@
 -- The same bytes say one thing; and what stands appended where memory was wanting.
-use Rattle.std.proofs.Common.{◌≡◌, ◌≤◌, ℕ, List, [], ◌∷◌, ◌++◌, length, length-append, Option, Some, None, refl, sym, ap, ◌∙◌, subst, append_assoc, append-nil, arith, Result, Ok, Err, OnErr}
+use Rattle.std.proofs.Common.{◌≡◌, ◌≤◌, ℕ, [], ◌++◌, length, length-append, Option, refl, sym, ap, ◌∙◌, subst, append_assoc, append-nil, arith, Result, Ok, Err, OnErr}
 use Rattle.http_wire.specs.declared.line_places.LinePlace.TheVariants.{Leading}
 use Rattle.http_wire.specs.declared.body_states.BodyState.{BodyState}
 use Rattle.http_wire.specs.declared.reply_reader.Phase.TheVariants.{InBody}

@@ -1,5 +1,5 @@
 -- What a reader has read, piece after piece.
-use Rattle.std.proofs.Common.{◌≡◌, ℕ, ◌<◌, ◌≤◌, Bool, true, false, List, [], ◌∷◌, ◌++◌, length, length-append, ◌+◌, Option, Some, None, refl, sym, ap, ◌∙◌, subst, append_assoc, append-nil, ◌==◌, ◌≢◌, arith, Result, Ok, Err}
+use Rattle.std.proofs.Common.{◌≡◌, ℕ, ◌<◌, true, false, [], ◌∷◌, ◌++◌, length, length-append, ◌+◌, Option, Some, None, refl, sym, ap, ◌∙◌, subst, append_assoc, append-nil, ◌==◌, ◌≢◌, arith, Result}
 use Rattle.std.proofs.lemmas.Bool.Decides.{nat_tests}
 use Rattle.http_wire.specs.declared.line_places.LinePlace.{LinePlace}
 use Rattle.http_wire.specs.declared.line_places.LinePlace.TheVariants.{Leading}
@@ -12,7 +12,6 @@ use Rattle.http_wire.specs.declared.reply_reader.ReplyReader.{ReplyReader}
 use Rattle.http_wire.specs.declared.replies.ReplyErr.{ReplyErr}
 use Rattle.http_wire.specs.declared.replies.ReplyErr.TheVariants.{HeadTooLong}
 use Rattle.http_wire.specs.declared.replies.Fed.{Fed}
-use Rattle.http_wire.specs.declared.replies.Fed.TheVariants.{More}
 use Rattle.http_wire.specs.LinePlaces.{next_line_place}
 use Rattle.http_wire.specs.BodyPlaces.{fed_at, closed_at, is_final}
 use Rattle.http_wire.specs.BodyBytes.{after_bytes, content_of}
@@ -20,7 +19,7 @@ use Rattle.http_wire.specs.BodyStarts.{HeadData}
 use Rattle.http_wire.specs.Fields.{Bytes}
 use Rattle.http_wire.specs.Heads.{IsHeadOf}
 use Rattle.http_wire.specs.Splits.{Split, in_head, no_head, behind_head, split_at, split_after, split_from, split_of}
-use Rattle.http_wire.specs.Outcomes.{Outcome, nothing_yet, outcome_by, body_start, IsSeen, IsOutcome, IsFinalAnswer}
+use Rattle.http_wire.specs.Outcomes.{Outcome, nothing_yet, outcome_by, body_start, IsSeen, IsFinalAnswer}
 use Rattle.http_wire.specs.Readers.{IsShown, IsBodyBehind, IsPhaseOf, IsInBody, HasRead, Reads, Feeds, IsNearer, Refuses, fed_by, refused_phase}
 use Rattle.http_wire.proofs.Runs.{after-append, of-append, settled_after, settled_of, few_of}
 use Rattle.http_wire.proofs.SplitFacts.{split-append, behind_by, none_by}

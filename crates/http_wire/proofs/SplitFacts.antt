@@ -1,5 +1,5 @@
 -- The end of the head, piece after piece.
-use Rattle.std.proofs.Common.{◌≡◌, ℕ, [], ◌∷◌, ◌++◌, refl, sym, ap, ◌∙◌, append_assoc, append-nil}
+use Rattle.std.proofs.Common.{◌≡◌, [], ◌∷◌, ◌++◌, refl, sym, ap, ◌∙◌, append_assoc, append-nil}
 use Rattle.http_wire.specs.Fields.{Bytes}
 use Rattle.http_wire.specs.Splits.{Split, no_head, behind_head, split_after, split_from}
 

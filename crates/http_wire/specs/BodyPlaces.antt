@@ -1,6 +1,6 @@
 -- Places in the body of a reply (RFC 9112 sections 6.3 and 7.1), byte by byte: what is content, and what frames it.
 -- Signs by their numbers: 9 tab, 10 line feed, 13 carriage return, 32 space, 59 semicolon.
-use Rattle.std.specs.Prelude.{ℕ, ◌<◌, ◌^◌, ◌+◌, ◌-◌, ◌*◌, ◌≤◌, Bool, true, false, ◌||◌, ◌&&◌, List, [], ◌∷◌, ◌++◌, Option, Some, None, if◌then◌else◌, ◌==◌, nat_le, nat_lt, Result, Ok, Err}
+use Rattle.std.specs.Prelude.{ℕ, ◌<◌, ◌^◌, ◌+◌, ◌-◌, ◌*◌, ◌≤◌, Bool, true, false, ◌||◌, ◌&&◌, Option, Some, None, if◌then◌else◌, ◌==◌, nat_le, nat_lt, Result, Ok, Err}
 use Rattle.std.specs.Char.{is_ascii_hexdigit, digit_value}
 use Rattle.http_wire.specs.declared.body_places.BodyPlace.{BodyPlace}
 use Rattle.http_wire.specs.declared.body_places.BodyPlace.TheVariants.{UntilClose, ContentLeft, ChunkData, ChunkSize, ChunkSpace, ChunkExtension, ChunkLineFeed, DataReturn, DataLineFeed, Trailer, Whole, Refused}

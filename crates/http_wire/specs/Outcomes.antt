@@ -1,6 +1,6 @@
 -- What the bytes of a reply that have come so far say under a limit. It depends on the joined bytes alone, and not on how
 -- they were cut.
-use Rattle.std.specs.Prelude.{◌≡◌, ℕ, Bool, true, false, List, [], ◌++◌, Option, Some, None, Result, Ok, Err}
+use Rattle.std.specs.Prelude.{◌≡◌, ℕ, Bool, true, false, [], ◌++◌, Option, Some, None, Result, Ok, Err}
 use Rattle.http_wire.specs.declared.body_states.BodyState.{BodyState}
 use Rattle.http_wire.specs.declared.body_places.BodyPlace.TheVariants.{Refused}
 use Rattle.http_wire.specs.declared.replies.Fed.{Fed}

@@ -1,5 +1,4 @@
 -- What is known of every phase of a reader.
-use Rattle.std.specs.Prelude.{ℕ}
 use Rattle.http_wire.specs.declared.reply_reader.Phase.{Phase}
 use Rattle.http_wire.specs.declared.reply_reader.Phase.TheVariants.{InHead, InBody}
 use Rattle.http_wire.specs.declared.body_places.BodyPlace.{BodyPlace}

@@ -1,5 +1,5 @@
 -- What a reader has read, and what it says of that.
-use Rattle.std.specs.Prelude.{◌≡◌, ℕ, ◌<◌, ◌≤◌, ◌+◌, List, [], ◌++◌, length, Option, Some, None, Result, Ok, Err}
+use Rattle.std.specs.Prelude.{◌≡◌, ℕ, ◌<◌, ◌≤◌, ◌+◌, ◌++◌, length, Option, Some, None, Result, Ok, Err}
 use Rattle.http_wire.specs.declared.body_states.BodyState.{BodyState}
 use Rattle.http_wire.specs.declared.body_places.BodyPlace.TheVariants.{Refused}
 use Rattle.http_wire.specs.declared.reply_reader.Phase.{Phase}

@@ -1,5 +1,5 @@
 -- Worked rows.
-use Rattle.std.specs.Prelude.{ℕ, ◌≡◌, List, [], ◌∷◌, ◌++◌, codes, refl, Ok, Err, Option, Some, None}
+use Rattle.std.specs.Prelude.{ℕ, ◌≡◌, [], ◌∷◌, ◌++◌, codes, refl, Ok, Err, Some, None}
 use Rattle.http_wire.specs.declared.body_places.BodyPlace.TheVariants.{UntilClose, ContentLeft, ChunkSize, Whole, Refused}
 use Rattle.http_wire.specs.declared.replies.Fed.TheVariants.{More, Done}
 use Rattle.http_wire.specs.declared.replies.ReplyErr.TheVariants.{BadChunk, BadLength, BodyTooLong, EndedEarly, Encoded}
@@ -9,7 +9,7 @@ use Rattle.http_wire.specs.BodyPlaces.{fed_at, closed_at}
 use Rattle.http_wire.specs.BodyStarts.{place_by_fields, body_place}
 use Rattle.http_wire.specs.ContentLengths.{decimal}
 use Rattle.http_wire.specs.Fields.{Bytes}
-use Rattle.http_wire.specs.Splits.{split_of, in_head, behind_head}
+use Rattle.http_wire.specs.Splits.{split_of, behind_head}
 
 -- builders: the end of a line, a chunked body and one of announced length, and a field
 abbrev ends : Bytes

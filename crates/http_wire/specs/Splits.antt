@@ -1,5 +1,5 @@
 -- Where the head of a reply ends: with the first empty line behind a line that isn't empty, within 65,536 bytes.
-use Rattle.std.specs.Prelude.{ℕ, List, [], ◌∷◌, ◌++◌, Option, Some, None, if◌then◌else◌, ◌==◌, length}
+use Rattle.std.specs.Prelude.{ℕ, [], ◌∷◌, ◌++◌, Option, Some, None, if◌then◌else◌, ◌==◌, length}
 use Rattle.http_wire.specs.declared.line_places.LinePlace.{LinePlace}
 use Rattle.http_wire.specs.declared.line_places.LinePlace.TheVariants.{Leading}
 use Rattle.http_wire.specs.LinePlaces.{next_line_place}

@@ -1,5 +1,5 @@
 use Rattle.http_wire.proofs.HeadFacts.{found_head}
-use Rattle.std.proofs.Common.{refl, sym, arith}
+use Rattle.std.proofs.Common.{arith}
 use Rattle.http_wire.proofs.heads.parse_head.Goals as goal
 
 pub returns-clause-judged : goal.returns-clause-judged

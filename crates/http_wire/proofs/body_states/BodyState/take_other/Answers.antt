@@ -1,4 +1,4 @@
-use Rattle.std.proofs.Common.{◌≡◌, refl, sym, ap, ◌∙◌, arith, drop, length}
+use Rattle.std.proofs.Common.{sym, ◌∙◌, drop, length}
 use Rattle.http_wire.proofs.Runs.{settled_after, settled_of}
 use Rattle.http_wire.proofs.body_states.BodyState.take_other.Goals as goal
 

@@ -1,4 +1,4 @@
-use Rattle.std.proofs.Common.{◌≡◌, ◌≤◌, ◌++◌, refl, sym, ap, ◌∙◌, arith, append_assoc, drop, take, length}
+use Rattle.std.proofs.Common.{◌++◌, sym, ap, ◌∙◌, arith, append_assoc, drop, take, length}
 use Rattle.http_wire.specs.declared.body_places.BodyPlace.TheVariants.{Refused}
 use Rattle.http_wire.specs.declared.replies.ReplyErr.TheVariants.{BodyTooLong}
 use Rattle.http_wire.proofs.Runs.{refused_after, refused_of, taken_after, taken_of, no_room_after, no_room_of, at}

@@ -1,4 +1,4 @@
-use Rattle.std.proofs.Common.{◌++◌, sym, ◌∙◌, Err}
+use Rattle.std.proofs.Common.{sym, ◌∙◌, Err}
 use Rattle.http_wire.proofs.ReaderFacts.{feeds_of, reads_refused}
 use Rattle.http_wire.proofs.PartFacts.{part_none, part_all}
 use Rattle.http_wire.proofs.reply_reader.ReplyReader.feed.Goals as goal

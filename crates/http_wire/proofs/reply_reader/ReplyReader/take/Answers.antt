@@ -1,4 +1,4 @@
-use Rattle.std.proofs.Common.{◌++◌, ◌∙◌, ap, refl, sym, subst, take, drop, take-append-drop, append_assoc, length, ◌-◌, length-drop, arith}
+use Rattle.std.proofs.Common.{◌++◌, ◌∙◌, ap, sym, subst, take, drop, take-append-drop, append_assoc, length, ◌-◌, length-drop, arith}
 use Rattle.std.proofs.lemmas.List.{take_all}
 use Rattle.http_wire.specs.Outcomes.{IsOutcome}
 use Rattle.http_wire.specs.Readers.{Reads}

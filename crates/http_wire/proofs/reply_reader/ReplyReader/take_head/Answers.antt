@@ -1,4 +1,4 @@
-use Rattle.std.proofs.Common.{◌+◌, [], ◌∷◌, refl, sym, ap, ◌∙◌, subst, arith, take}
+use Rattle.std.proofs.Common.{[], sym, subst, arith, take}
 use Rattle.std.proofs.lemmas.List.{take_more}
 use Rattle.http_wire.specs.Readers.{Reads}
 use Rattle.http_wire.proofs.ReaderFacts.{reads_none, reads_then}

@@ -1,4 +1,4 @@
-use Rattle.std.specs.Prelude.{◌≡◌, ℕ, ◌≤◌, ◌-◌, [], length, take}
+use Rattle.std.specs.Prelude.{ℕ, ◌≤◌, ◌-◌, [], length, take}
 use Rattle.http_wire.specs.Fields.{Bytes}
 use Rattle.http_wire.specs.Readers.{HasRead, Reads}
 use Rattle.http_wire.specs.Outcomes.{Outcome}
