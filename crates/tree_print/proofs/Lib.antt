@@ -1,3 +1,4 @@
+mod Pieces
 mod States
 mod Steps
 mod Forests

@@ -19,14 +19,14 @@ pub record IsPrinted (settled : Settled) (line : ℕ) (marks : List Bool) (stack
   pub branches : List Branch
   pub state : IsState settled.edges marks stack above branches
   pub depth : IsWithin line branches
-  pub text : text ++ flat_map (line_text settled.nodes) (lines settled.edges (length settled.edges - line) above branches) ≡ tree_text settled
+  pub shown : text ++ flat_map (line_text settled.nodes) (lines settled.edges (length settled.edges - line) above branches) ≡ tree_text settled
 
 within_more : (line : ℕ) (branches : List Branch) → IsWithin line branches → IsWithin (line + 1) branches
 within_more line branches old k d h = omega (arith, old k d h)
 
 children_within : (edges : List Edge) (was : Bool) (branch : Branch) (line : ℕ) → branch.depth ≤ line → IsWithin (line + 1) (children edges was branch)
 children_within edges true branch line h k d within = absurd (omega (arith, within))
-children_within edges false branch line h = All-map (λ (b : Branch). b.depth ≤ line + 1) (branch_at (suc branch.depth)) (edges_of edges branch.edge.target) (λ k d within. omega (arith, h))
+children_within edges false branch line h k d within = All-map (λ (b : Branch). b.depth ≤ line + 1) (branch_at (suc branch.depth)) (edges_of edges branch.edge.target) (λ k d within. omega (arith, h)) k d within
 
 first_within : (branch : Branch) (branches : List Branch) (line : ℕ) → IsWithin line (branch ∷ branches) → branch.depth ≤ line
 first_within branch branches line old = old 0 branch (omega arith)
@@ -51,7 +51,7 @@ module _ (settled : Settled) (line : ℕ) (marks : List Bool) (stack popped : Li
   some_branch : (above : List ℕ) (branches : List Branch) → IsState settled.edges marks stack above branches → (branch : Branch) × ((rest : List Branch) × (branches ≡ branch ∷ rest))
   some_branch above (branch ∷ rest) state = (branch, (rest, refl))
   some_branch above [] state =
-      let none : map (found settled.edges) (reverse (popped ++ top ∷ [])) ≡ [] = subst (λ (s : List Pending). map (found settled.edges) (reverse s) ≡ []) pop state.branches in
+      let none : map (found settled.edges) (reverse (popped ++ top ∷ [])) ≡ [] = subst (λ (s : List Pending). map (found settled.edges) (reverse s) ≡ []) pop state.held in
       let some : map (found settled.edges) (reverse (popped ++ top ∷ [])) ≡ found settled.edges top ∷ map (found settled.edges) (reverse popped) = top_first settled.edges popped top in
       absurd (cc (none, some))
 
@@ -80,13 +80,13 @@ module _ (settled : Settled) (line : ℕ) (marks : List Bool) (stack popped : Li
       record {
         above = branch.edge.target ∷ so.above;
         branches = children settled.edges (is_among so.above branch.edge.target) branch ++ branches;
-        state = step.state so.above branch branches state;
+        state = step.rest so.above branch branches state;
         depth =
             All-append (λ (b : Branch). b.depth ≤ line + 1) (children settled.edges (is_among so.above branch.edge.target) branch) branches
             (children_within settled.edges (is_among so.above branch.edge.target) branch line (first_within branch branches line within)) (within_more line branches (rest_within branch branches line within));
-        text =
+        shown =
             next_text settled line so.above branch branches text text' h
-            (subst (λ (b : List Branch). text ++ flat_map (line_text settled.nodes) (lines settled.edges (length settled.edges - line) so.above b) ≡ tree_text settled) some.1.1 so.text) (step.text so.above branch branches state);
+            (subst (λ (b : List Branch). text ++ flat_map (line_text settled.nodes) (lines settled.edges (length settled.edges - line) so.above b) ≡ tree_text settled) some.1.1 so.shown) (step.line so.above branch branches state);
       }
 
 -- nothing is left once the stack is empty
@@ -95,7 +95,7 @@ no_lines edges zero above = refl
 no_lines edges (suc left) above = refl
 
 pub last_line : (settled : Settled) (line : ℕ) (marks : List Bool) (stack : List Pending) (text : List ℕ) → stack ≡ [] → IsPrinted settled line marks stack text → text ≡ tree_text settled
-last_line settled line marks stack text empty so = by so.branches (subst (λ (s : List Pending). map (found settled.edges) (reverse s) ≡ map wanted so.branches) empty so.state.branches) so.text
+last_line settled line marks stack text empty so = by so.branches (subst (λ (s : List Pending). map (found settled.edges) (reverse s) ≡ map wanted so.branches) empty so.state.held) so.shown
   where
     by : (branches : List Branch) → [] ≡ map wanted branches → text ++ flat_map (line_text settled.nodes) (lines settled.edges (length settled.edges - line) so.above branches) ≡ tree_text settled → text ≡ tree_text settled
     by [] none is = sym (append-nil text) ∙ ap (λ z. text ++ flat_map (line_text settled.nodes) z) (sym (no_lines settled.edges (length settled.edges - line) so.above)) ∙ is
@@ -104,7 +104,7 @@ last_line settled line marks stack text empty so = by so.branches (subst (λ (s 
 pub all_lines : (settled : Settled) (line : ℕ) (marks : List Bool) (stack : List Pending) (text : List ℕ) → length settled.edges ≤ line → IsPrinted settled line marks stack text → text ≡ tree_text settled
 all_lines settled line marks stack text h so =
     let none : length settled.edges - line ≡ 0 = omega (arith, h) in
-    sym (append-nil text) ∙ ap (λ n. text ++ flat_map (line_text settled.nodes) (lines settled.edges n so.above so.branches)) (sym none) ∙ so.text
+    sym (append-nil text) ∙ ap (λ n. text ++ flat_map (line_text settled.nodes) (lines settled.edges n so.above so.branches)) (sym none) ∙ so.shown
 
 roots_within : (edges : List Edge) → IsWithin 0 (root_branches edges)
 roots_within edges = All-map (λ (b : Branch). b.depth ≤ 0) (branch_at 0) _ (λ k d within. omega arith)
@@ -116,7 +116,7 @@ first_line settled marks stack text empty state =
       branches = root_branches settled.edges;
       state = state;
       depth = roots_within settled.edges;
-      text =
+      shown =
           ap (λ z. z ++ flat_map (line_text settled.nodes) (lines settled.edges (length settled.edges - 0) [] (root_branches settled.edges))) empty
           ∙ ap (λ n. flat_map (line_text settled.nodes) (lines settled.edges n [] (root_branches settled.edges))) (omega arith);
     }

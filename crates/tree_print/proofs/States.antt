@@ -1,13 +1,13 @@
 -- The state of the walk after a step.
-use Rattle.std.proofs.Common.{◌≡◌, ◌<◌, ◌≤◌, ◌+◌, ℕ, zero, suc, Bool, true, false, Option, Some, List, [], ◌∷◌, ◌++◌, cond, length, map, reverse, get_or, set, refl, sym, ◌∙◌, ap, subst, arith, ◌⊎◌, ⊎_elim, eqb, ◌||◌}
+use Rattle.std.proofs.Common.{◌≡◌, ◌<◌, ◌≤◌, ◌+◌, ℕ, zero, suc, Bool, true, false, Option, Some, List, [], ◌∷◌, ◌++◌, cond, length, map, replicate, reverse, get_or, set, refl, sym, ◌∙◌, ap, subst, arith, ◌⊎◌, ⊎_elim, eqb, ◌||◌}
 use Rattle.std.specs.Prelude.{slice_get}
 use Rattle.std.proofs.lemmas.Bool.Decides.{eqb_tells}
-use Rattle.std.proofs.lemmas.List.{append-nil, length-set, map-append, reverse-append, reverse-reverse}
+use Rattle.std.proofs.lemmas.List.{append-nil, length-replicate, length-set, map-append, reverse-append, reverse-reverse}
 use Rattle.std.proofs.lemmas.Option.{slice_get_within}
-use Rattle.node_edges.specs.Edges.{edges_of}
+use Rattle.node_edges.specs.Edges.{edges_of, root_edges}
 use Rattle.node_edges.specs.Table.{ArePlaces}
 use Rattle.resolution.specs.declared.settled.Edge.{Edge}
-use Rattle.tree_print.specs.Lines.{Branch, branch_at, children, is_among}
+use Rattle.tree_print.specs.Lines.{Branch, branch_at, children, is_among, root_branches}
 use Rattle.tree_print.specs.Stacks.{IsState, Marks, found, pending_at, wanted}
 use Rattle.tree_print.specs.declared.pending.Pending.{Pending}
 
@@ -72,7 +72,7 @@ grown edges stack branch places branches false are old =
 
 module _ (edges : List Edge) (marks : List Bool) (stack : List Pending) (top : Pending) (above : List ℕ) (branch : Branch) (branches : List Branch) (state : IsState edges marks (stack ++ top ∷ []) above (branch ∷ branches)) where
   both : found edges top ∷ map (found edges) (reverse stack) ≡ wanted branch ∷ map wanted branches
-  both = sym (top_first edges stack top) ∙ state.branches
+  both = sym (top_first edges stack top) ∙ state.held
 
   pub same_depth : top.depth ≡ branch.depth
   same_depth = let e : found edges top ≡ wanted branch = cc both in ap (λ (p : ℕ × Option Edge). p.0) e
@@ -95,11 +95,27 @@ module _ (edges : List Edge) (marks : List Bool) (stack : List Pending) (top : P
 
     module _ (was : Bool) (within : e.target < length marks) (is : slice_get marks e.target ≡ Some was) where
       pub same_mark : was ≡ is_among above e.target
-      same_mark = let known : slice_get marks e.target ≡ Some (is_among above e.target) = state.marks e.target within in cc
+      same_mark = let known : slice_get marks e.target ≡ Some (is_among above e.target) = state.marked e.target within in cc
 
       pub next_state : (places : List ℕ) (stack' : List Pending) → ArePlaces edges places (edges_of edges e.target) → stack' ≡ stack ++ cond was [] (map (pending_at (top.depth + 1)) (reverse places))
           → IsState edges (set marks e.target true) stack' (branch.edge.target ∷ above) (children edges (is_among above branch.edge.target) branch ++ branches)
       next_state places stack' are new =
           subst (λ (b : Branch). IsState edges (set marks e.target true) stack' (b.edge.target ∷ above) (children edges (is_among above b.edge.target) b ++ branches)) (sym same_branch)
           (subst (λ (w : Bool). IsState edges (set marks e.target true) stack' (e.target ∷ above) (children edges w (branch_at top.depth e) ++ branches)) same_mark
-          (record { marks = marked marks above e.target within state.marks; branches = ap (λ z. map (found edges) (reverse z)) new ∙ grown edges stack (branch_at top.depth e) places branches was are rest }))
+          (record { marked = marked marks above e.target within state.marked; held = ap (λ z. map (found edges) (reverse z)) new ∙ grown edges stack (branch_at top.depth e) places branches was are rest }))
+
+slice_get-replicate : (n i : ℕ) → i < n → slice_get (replicate n false) i ≡ Some false
+slice_get-replicate zero i h = absurd (omega (arith, h))
+slice_get-replicate (suc n) zero h = refl
+slice_get-replicate (suc n) (suc i) h = slice_get-replicate n i (omega (arith, h))
+
+-- the roots are on the stack, and no line stands above
+pub start_state : (edges : List Edge) (count : ℕ) (marks : List Bool) (stack : List Pending) (places : List ℕ) → marks ≡ replicate count false → ArePlaces edges places (root_edges edges) → stack ≡ map (pending_at 0) (reverse places)
+    → IsState edges marks stack [] (root_branches edges)
+start_state edges count marks stack places none are is =
+    record {
+      marked = λ place within.
+          let here : place < count = subst (λ n. place < n) (ap length none ∙ length-replicate count false) within in
+          ap (λ (m : List Bool). slice_get m place) none ∙ slice_get-replicate count place here;
+      held = ap (λ z. map (found edges) (reverse z)) is ∙ pushed edges [] 0 places (root_edges edges) [] are refl ∙ ap (map wanted) (append-nil (root_branches edges));
+    }

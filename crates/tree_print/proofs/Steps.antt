@@ -24,10 +24,10 @@ module _ (settled : Settled) (marks marks' : List Bool) (stack stack' : List Pen
   step_made within is target mark are line marked pushed =
       let here : slice_get settled.edges top.at ≡ Some e = slice_get_read settled.edges (length settled.edges) top.at e refl within is in
       record {
-        text = λ above branch branches state.
+        line = λ above branch branches state.
             line
             ∙ ap (λ (w : Bool). text ++ line_text settled.nodes (line_at top.depth e w)) (same_mark settled.edges marks stack top above branch branches state e here was target mark)
             ∙ ap (λ (b : Branch). text ++ line_text settled.nodes (line_of above b)) (sym (same_branch settled.edges marks stack top above branch branches state e here));
-        state = λ above branch branches state.
+        rest = λ above branch branches state.
             subst (λ (m : List Bool). IsState settled.edges m stack' (branch.edge.target ∷ above) (children settled.edges (is_among above branch.edge.target) branch ++ branches)) (sym marked) (next_state settled.edges marks stack top above branch branches state e here was target mark places stack' are pushed);
       }

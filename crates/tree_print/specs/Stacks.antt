@@ -23,8 +23,8 @@ Marks marks above = (place : ℕ) → place < length marks → slice_get marks p
 -- marks for the modules above, and a stack of these branches
 pub record IsState (edges : List Edge) (marks : List Bool) (stack : List Pending)
     (above : List ℕ) (branches : List Branch) : Type 0 where
-  pub marks : Marks marks above
-  pub branches : map (found edges) (reverse stack) ≡ map wanted branches
+  pub marked : Marks marks above
+  pub held : map (found edges) (reverse stack) ≡ map wanted branches
 
 -- how deep branches are at most
 abbrev pub IsWithin : ℕ → List Branch → Type 0
@@ -33,10 +33,10 @@ IsWithin depth branches = All (λ (branch : Branch). branch.depth ≤ depth) bra
 -- a line more in the text, a module more above, and its children on the stack
 pub record IsStep (settled : Settled) (marks : List Bool) (stack : List Pending) (text : List ℕ)
     (marks' : List Bool) (stack' : List Pending) (text' : List ℕ) : Type 0 where
-  pub text : (above : List ℕ) (branch : Branch) (branches : List Branch)
+  pub line : (above : List ℕ) (branch : Branch) (branches : List Branch)
       → IsState settled.edges marks stack above (branch ∷ branches)
       → text' ≡ text ++ line_text settled.nodes (line_of above branch)
-  pub state : (above : List ℕ) (branch : Branch) (branches : List Branch)
+  pub rest : (above : List ℕ) (branch : Branch) (branches : List Branch)
       → IsState settled.edges marks stack above (branch ∷ branches)
       → IsState settled.edges marks' stack' (branch.edge.target ∷ above)
       (children settled.edges (is_among above branch.edge.target) branch ++ branches)

@@ -40,9 +40,12 @@ abbrev pub end_text : Bool → List ℕ
 end_text true = codes " (above)" ++ line_feed ∷ []
 end_text false = line_feed ∷ []
 
+-- a line without its indent
+abbrev pub entry_text : List Node → Edge → Bool → List ℕ
+entry_text nodes e above = target_text (slice_get nodes e.target) e.asked ++ end_text above
+
 abbrev pub line_text : List Node → Line → List ℕ
-line_text nodes line =
-    indent line.depth ++ (target_text (slice_get nodes line.edge.target) line.edge.asked ++ end_text line.above)
+line_text nodes line = indent line.depth ++ entry_text nodes line.edge line.above
 
 abbrev pub tree_text : Settled → List ℕ
 tree_text settled = flat_map (line_text settled.nodes) (tree_lines settled.edges)

@@ -2,10 +2,10 @@
 ghost use Rattle.std.specs.Prelude.{◌≡◌, ◌++◌, OnOk};
 ghost use Rattle.std.specs.Option.{option_copied};
 ghost use Rattle.tree_print.specs.Lines.{line_at};
-ghost use Rattle.tree_print.specs.Texts.{asked_text as asked_as, choice_text, end_text, indent};
+ghost use Rattle.tree_print.specs.Texts.{asked_text as asked_as, choice_text, end_text, entry_text, indent};
 ghost use Rattle.tree_print.specs.Texts.{line_text, name_text, node_text, target_text};
 
-use res_base::{Module, NoMemory, Text};
+use res_base::{List, Module, NoMemory, Text};
 use resolution::{Edge, Node};
 
 /// Two spaces for each step of depth.
@@ -69,10 +69,19 @@ fn end_of(above: bool) -> &'static str
     if above { " (above)\n" } else { "\n" }
 }
 
+/// A line without its indent.
+fn put_entry(text: &mut Text, nodes: &List<Node>, edge: &Edge, above: bool) -> Result<(), NoMemory>
+    ensures { OnOk result (text.new ≡ text.old ++ entry_text nodes.now edge.now above) }
+{
+    let node = nodes.get(edge.target as usize);
+    put_target(text, node, edge.asked.as_str())?;
+    text.push_str(end_of(above))
+}
+
 /// Puts the line of an edge at the end of a text.
 pub(crate) fn put_line(
     text: &mut Text,
-    nodes: &[Node],
+    nodes: &List<Node>,
     edge: &Edge,
     depth: usize,
     above: bool,
@@ -80,7 +89,5 @@ pub(crate) fn put_line(
     ensures { OnOk result (text.new ≡ text.old ++ line_text nodes.now (line_at depth edge.now above)) }
 {
     put_indent(text, depth)?;
-    let node = nodes.get(edge.target as usize);
-    put_target(text, node, edge.asked.as_str())?;
-    text.push_str(end_of(above))
+    put_entry(text, nodes, edge, above)
 }

@@ -34,7 +34,7 @@ fn print_branch(
     let edge = &settled.edges.as_slice()[top.at];
     let target = edge.target as usize;
     let above = mark(marks, target);
-    put_line(text, settled.nodes.as_slice(), edge, top.depth, above)?;
+    put_line(text, &settled.nodes, edge, top.depth, above)?;
     let children = table.rows.as_slice()[target].as_slice();
     push_unless(stack, above, top.depth + 1, children)
 }
