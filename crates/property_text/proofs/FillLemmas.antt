@@ -99,7 +99,7 @@ unfilled value_of fill name left e = rw e refl
 -- no value more
 pub too_deep : (value_of : List ℕ → Option (List ℕ)) (front name value : List ℕ) (depth left : ℕ) → value_of name ≡ Some value → depth ≡ zero
     → IsPast (prefixed front (filled_hole (filled_value value_of depth) name (value_of name) left))
-too_deep value_of front name value depth zero e f = rw (e, f) tt
+too_deep value_of front name value depth zero e f = rw e tt
 too_deep value_of front name value depth (suc left) e f = rw (e, f) tt
 
 pub too_many : (value_of : List ℕ → Option (List ℕ)) (front name value : List ℕ) (depth left : ℕ) → value_of name ≡ Some value → left ≡ zero

@@ -146,3 +146,7 @@ pub seen_at : (pairs : List (Bor (List ℕ) × Bor (List ℕ))) (place : ℕ) (d
 seen_at [] place d = refl
 seen_at (pair ∷ pairs) zero d = refl
 seen_at (pair ∷ pairs) (suc place) d = seen_at pairs place d
+
+-- what stands for a pair where there is none
+abbrev pub no_pair : Bor (List ℕ) × Bor (List ℕ)
+no_pair = (record { ref_ptr = (0, 0); now = [] }, record { ref_ptr = (0, 0); now = [] })

@@ -1,4 +1,4 @@
-use Rattle.std.proofs.Common.{◌≡◌, ◌-◌, ◌+◌, ◌<◌, true, suc, List, [], length, drop, get_or, subst, ap, sym, ◌∙◌, arith, rules, Some, None, refl}
+use Rattle.std.proofs.Common.{◌≡◌, ◌-◌, ◌+◌, ◌*◌, ◌<◌, true, suc, List, [], length, drop, get_or, subst, ap, sym, ◌∙◌, arith, rules, Some, None, refl}
 use Rattle.std.specs.Prelude.{All}
 use Rattle.std.proofs.lemmas.List.{drop_all}
 use Rattle.std.proofs.lemmas.Result.{IfOk-weaker}
@@ -95,8 +95,8 @@ push_hole-index-requires t c =
     let fits : place < length cuts = cut_within values values cuts place c.self.invariant (within name values place at) in
     search rules
 
-pub push_hole-push_cut-requires-clause-placed : goal.push_hole-push_cut-requires-clause-placed
-push_hole-push_cut-requires-clause-placed t c =
+pub push_hole-push_cut-requires : goal.push_hole-push_cut-requires
+push_hole-push_cut-requires t c =
     let values = c.self.inside.values in
     let cuts = c.self.inside.cuts.items in
     let place = c.in-Some.place in
@@ -105,7 +105,10 @@ push_hole-push_cut-requires-clause-placed t c =
     let cut : Cut = c.index.result.now in
     let one = cut_at values values cuts place ([], []) cut c.self.invariant (within name values place at) in
     let same : get_or cuts place cut ≡ cut = sym c.index.ensures in
-    subst (λ (pairs : List Pair). All (IsPlaced pairs) cut.holes.items) c.self.view_is (subst (λ (cut : Cut). All (IsPlaced values) cut.holes.items) same one.placed)
+    let all : All (IsPlaced c.args.self.now) cut.holes.items =
+    subst (λ (pairs : List Pair). All (IsPlaced pairs) cut.holes.items) c.self.view_is (subst (λ (cut : Cut). All (IsPlaced values) cut.holes.items) same one.placed) in
+    let smaller : 2 * (c.args.depth - 1) + 1 < 2 * c.args.depth = omega (arith, c.if-depth-eq0.false) in
+    search rules
 
 pub push_hole-returns-in-None : goal.push_hole-returns-in-None
 push_hole-returns-in-None t c =
