@@ -1,5 +1,5 @@
 //! What names stand for in the texts of a project.
-ghost use Rattle.std.specs.Prelude.{◌≡◌, codes, IfOk};
+ghost use Rattle.std.specs.Prelude.{◌≡◌, codes, Some, IfOk};
 ghost use Rattle.pom_build.specs.Names.{fill_in, is_field_name as field_name, org_part, part_of, version_part};
 ghost use Rattle.pom_build.specs.Puts.{coordinates_under, parent_under, put_all, put_field, put_fields, put_project, put_projects, put_property, put_record};
 ghost use Rattle.row_lists.specs.RowLists.{or_text};
@@ -91,6 +91,21 @@ fn put_short<'a>(
     put_present(with_name, version, version_of(pom))
 }
 
+/// Puts in the coordinates of a parent, under these names.
+fn put_coord<'a>(
+    values: Values<'a>,
+    org: &'a str,
+    name: &'a str,
+    version: &'a str,
+    parent: &'a Coord,
+) -> Result<Values<'a>, NoMemory>
+    ensures { IfOk result (λ made. made ≡ put_fields values.entry (parent_under org.now name.now version.now (Some parent.now))) }
+{
+    let with_org = put_present(values, org, parent.module.org.as_str())?;
+    let with_name = put_present(with_org, name, parent.module.name.as_str())?;
+    put_present(with_name, version, parent.version.as_str())
+}
+
 /// Puts in the coordinates of a parent, if there is one, under these names.
 fn put_parent<'a>(
     values: Values<'a>,
@@ -103,11 +118,7 @@ fn put_parent<'a>(
 {
     match parent {
         None => Ok(values),
-        Some(parent) => {
-            let with_org = put_present(values, org, parent.module.org.as_str())?;
-            let with_name = put_present(with_org, name, parent.module.name.as_str())?;
-            put_present(with_name, version, parent.version.as_str())
-        }
+        Some(parent) => put_coord(values, org, name, version, parent),
     }
 }
 
@@ -176,12 +187,19 @@ fn put_parents<'a>(values: Values<'a>, parents: &[Project<'a>]) -> Result<Values
     Ok(made)
 }
 
+/// The project's own record.
+fn own_record<'a>(line: &Line<'a>) -> &'a PomRecord
+    ensures { result.now ≡ line.now.own.pom }
+{
+    line.own.pom
+}
+
 /// The fields of the project's own record, the properties, the nearest first, and the coordinates
 /// again. All of it is borrowed.
 fn values_of<'a>(alloc: Global, line: &Line<'a>) -> Result<Values<'a>, NoMemory>
     ensures { IfOk result (λ made. made ≡ put_all line.now) }
 {
-    let pom = line.own.pom;
+    let pom = own_record(line);
     let fields = put_project_fields(Values::new(alloc), pom)?;
     let all_fields = put_pom_fields(fields, pom)?;
     let own = put_all_properties(all_fields, &line.own)?;

@@ -122,8 +122,11 @@ places_push pairs before after name value places new updated q =
     at : (b : Bool) → text_eq name q ≡ b → cond b (Some (length pairs)) (place_from q 0 pairs)
         ≡ otherwise (place_from q 0 pairs) (cond (text_eq q name) (Some (0 + length pairs)) None)
     at true same =
-        rw (sym (place_like name q 0 pairs same) ∙ none_of (place_from name 0 pairs) (known_from name 0 pairs ∙ new),
-        nat_list_eq_equiv.symm q name, same) (ap Some (omega arith))
+        rw (
+          sym (place_like name q 0 pairs same) ∙ none_of (place_from name 0 pairs) (known_from name 0 pairs ∙ new),
+          nat_list_eq_equiv.symm q name,
+          same,
+        ) (ap Some (omega arith))
     at false other = rw (nat_list_eq_equiv.symm q name, other) (plain (place_from q 0 pairs))
 
 pub new_pair : (pairs : List Pair) (name value : List ℕ) → is_some (value_in pairs name) ≡ false

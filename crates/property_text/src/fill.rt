@@ -107,12 +107,7 @@ impl<'a> CutValues<'a> {
     /// Puts a text at the end, filled, where so many values may stand in one another. Says whether
     /// that is within the limits.
     #[cycle(fill)]
-    fn push_cut(
-        &self,
-        cut: &Cut<'_>,
-        depth: u32,
-        progress: &mut Progress,
-    ) -> Result<bool, NoMemory>
+    fn push_cut(&self, cut: &Cut<'_>, depth: u32, progress: &mut Progress) -> Result<bool, NoMemory>
         requires size { length progress.old.text ≤ SIZE }
         requires placed { All (IsPlaced self.now) cut.now.holes.items }
         ensures { IfOk result (λ within. IsOutcome within (filling_of progress.old) (filled_segments (value_in self.now) (filled_value (value_in self.now) depth) (segments_of cut.now) progress.old.left) (filling_of progress.new)) }

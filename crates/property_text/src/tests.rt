@@ -14,12 +14,21 @@ fn times(alloc: Global, count: usize, text: &str) -> Result<Text, NoMemory> {
 }
 
 /// Whether a text is filled to another one.
-fn fills(alloc: Global, values: &CutValues<'_>, text: &Text, wanted: &str) -> Result<bool, NoMemory> {
+fn fills(
+    alloc: Global,
+    values: &CutValues<'_>,
+    text: &Text,
+    wanted: &str,
+) -> Result<bool, NoMemory> {
     Ok(values.fill(alloc, text)?.as_str() == wanted)
 }
 
 /// Whether each text is filled to the one beside it.
-fn fill_all(alloc: Global, values: &CutValues<'_>, rows: &[(&str, &str)]) -> Result<bool, NoMemory> {
+fn fill_all(
+    alloc: Global,
+    values: &CutValues<'_>,
+    rows: &[(&str, &str)],
+) -> Result<bool, NoMemory> {
     for row in rows {
         if !fills(alloc, values, &Text::of(alloc, row.0)?, row.1)? {
             return Ok(false);
