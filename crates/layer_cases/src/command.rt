@@ -1,15 +1,14 @@
 //! Which command answers a line.
 ghost use Rattle.std.specs.Prelude.{IfOk, string_bytes};
-ghost use Rattle.layer_cases.specs.Words.{IsOneLine};
+ghost use Rattle.case_words.specs.Words.{IsOneLine};
 
-use crate::case_error::CaseError;
-use crate::words::pieces_of;
-use crate::{
-    artifacts, choices, coordinates, digests, effectives, exclusions, intervals, lookups, poms,
-    rounds, scopes, trees, versions,
-};
+use case_words::case_error::CaseError;
+use case_words::words::pieces_of;
+use project_cases::{effectives, lookups, poms, trees};
+use round_cases::{artifacts, rounds};
 use std::alloc::{AllocError, Global};
 use std::str;
+use value_cases::{choices, coordinates, digests, exclusions, intervals, scopes, versions};
 
 fn answer_words(alloc: Global, words: &[&str]) -> Result<String, CaseError> {
     let [command, fields @ ..] = words else {

@@ -8,28 +8,8 @@
 //! is answered by `unknown`.
 #![tactic(auto)]
 
-mod artifacts;
-mod case_error;
-mod choices;
 mod command;
-mod coordinates;
-mod digests;
-mod effectives;
-mod exclusions;
-mod hex_word;
-mod intervals;
-mod lines;
-mod lookups;
-mod names;
-mod poms;
-mod progress;
-mod reasons;
-mod rounds;
-mod scopes;
 mod serve;
-mod trees;
-mod versions;
-mod words;
 
 use std::io;
 use std::io::{BufReader, BufWriter, Write};

@@ -1,0 +1,3 @@
+pub mod HexWord
+pub mod Names
+pub mod Words

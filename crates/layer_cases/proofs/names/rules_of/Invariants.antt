@@ -1,7 +1,0 @@
-use Rattle.std.proofs.Common.{◌≡◌, map, take}
-use Rattle.layer_cases.specs.Names.{rule_word}
-use Rattle.layer_cases.specs.Words.{texts_of}
-use Rattle.layer_cases.proofs.names.rules_of.Given as goal
-
-abbrev pub invariant-loop-word : goal.invariant-loop-word
-invariant-loop-word l = map rule_word l.rules ≡ texts_of (take l.word-index l.words)

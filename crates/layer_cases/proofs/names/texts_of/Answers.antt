@@ -1,8 +1,0 @@
-use Rattle.std.proofs.Common.{map}
-use Rattle.layer_cases.specs.HexWord.{hex_word}
-use Rattle.layer_cases.proofs.Joins.{pieces-joined}
-use Rattle.layer_cases.proofs.names.texts_of.Goals as goal
-
-pub returns : goal.returns
-returns c =
-    pieces-joined 44 c.args.word.now (map hex_word c.in_ok-some_texts_of.field-0) c.as_slice.result.now c.in_ok-words.words.items c.in_ok-some_texts_of.ensures c.as_slice.ensures.value c.in_ok-words.ensures

@@ -1,7 +1,0 @@
-use Rattle.std.proofs.Common.{◌≡◌, ◌∷◌, map, take, string_bytes}
-use Rattle.layer_cases.specs.Names.{rule_word}
-use Rattle.layer_cases.specs.Poms.{row_word}
-use Rattle.layer_cases.proofs.poms.dep_word.Given as goal
-
-abbrev pub invariant-loop-rule : goal.invariant-loop-rule
-invariant-loop-rule l = map string_bytes l.words.items ≡ row_word l.dep ∷ map rule_word (take l.rule-index l.rule-items)
