@@ -20,16 +20,21 @@ use Rattle.artifact_files.specs.declared.names.NodeFile.{NodeFile}
 -- ---- files in order: by node, then by extension, then by classifier
 
 abbrev pub node_file_eq : NodeFile → NodeFile → Bool
-node_file_eq = eq_of_both (eq_of_both (on (λ file. file.place) nat_eq) (on (λ file. file.name.ext) text_eq)) (on (λ file. file.name.classifier) text_eq)
+node_file_eq =
+    eq_of_both (eq_of_both (on (λ file. file.place) nat_eq) (on (λ file. file.name.ext) text_eq))
+    (on (λ file. file.name.classifier) text_eq)
 
 abbrev pub node_file_cmp : NodeFile → NodeFile → Ordering
-node_file_cmp = then_cmp (then_cmp (on (λ file. file.place) nat_cmp) (on (λ file. file.name.ext) text_cmp)) (on (λ file. file.name.classifier) text_cmp)
+node_file_cmp =
+    then_cmp (then_cmp (on (λ file. file.place) nat_cmp) (on (λ file. file.name.ext) text_cmp))
+    (on (λ file. file.name.classifier) text_cmp)
 
 -- ---- the files that edges name
 
 abbrev pub with_name : List NodeFile → ℕ → Option FileName → List NodeFile
 with_name files place None = files
-with_name files place (Some name) = if is_fit name then insert_key node_file_cmp files (record { place = place; name = name }) else files
+with_name files place (Some name) =
+    if is_fit name then insert_key node_file_cmp files (record { place = place; name = name }) else files
 
 -- a module that has moved has no artifact
 abbrev pub unless_moved : Bool → List NodeFile → ℕ → Option FileName → List NodeFile
@@ -55,7 +60,11 @@ pub record Keys : Type 0 where
 
 abbrev pub with_path : Keys → ℕ → List ℕ → Keys
 with_path so_far repo path =
-    if list_any (is_at (text_cmp path)) so_far.paths then so_far else record { paths = insert_key text_cmp so_far.paths path; keys = so_far.keys ++ key_of repo Artifact path ∷ [] }
+    if list_any (is_at (text_cmp path)) so_far.paths then so_far else record {
+      paths =
+          insert_key text_cmp so_far.paths path;
+      keys = so_far.keys ++ key_of repo Artifact path ∷ [];
+    }
 
 abbrev pub with_key : Keys → FileName → Option Node → Keys
 with_key so_far name None = so_far

@@ -10,7 +10,8 @@ module _ {K E S : Type 0} (g : Graph K E S) where
   -- n edges after the root, the exclusions that were met, and the last edge
   pub data Walk : ℕ → S → E → Type 0 where
     first : {e : E} → In e g.roots → Walk 0 (g.excludes e) e
-    next : {n : ℕ} {met : S} {last e : E} → Walk n met last → In e (g.out (g.target last)) → g.bars met (g.target e) ≡ false → Walk (suc n) (g.join met (g.excludes e)) e
+    next : {n : ℕ} {met : S} {last e : E} → Walk n met last → In e (g.out (g.target last))
+        → g.bars met (g.target e) ≡ false → Walk (suc n) (g.join met (g.excludes e)) e
 
   -- where a bars, b does
   pub record Within (a b : S) : Type 0 where
@@ -44,7 +45,12 @@ module _ {K E S : Type 0} (g : Graph K E S) where
     or_grows false false u f h = h
 
     pub within-join : (a b c : S) → Within a b → Within (g.join a c) (g.join b c)
-    within-join a b c w = record { all = λ m h. lawful.bars_join b c m ∙ or_grows (g.bars a m) (g.bars b m) (g.bars c m) (w.all m) (sym (lawful.bars_join a c m) ∙ h) }
+    within-join a b c w =
+        record {
+          all =
+              λ m h. lawful.bars_join b c m
+              ∙ or_grows (g.bars a m) (g.bars b m) (g.bars c m) (w.all m) (sym (lawful.bars_join a c m) ∙ h);
+        }
 
     within-front : (a c : S) → Within a (g.join a c)
     within-front a c = record { all = λ m h. lawful.bars_join a c m ∙ rw h }
@@ -56,17 +62,34 @@ module _ {K E S : Type 0} (g : Graph K E S) where
     within_itself a = record { all = λ m h. h }
 
     widened : (a b : S) (k : K) → Within a b → Fresh a k → Fresh b k
-    widened a b k w f = record { way = f.way; live = f.live; at = f.at; not_left = f.not_left; within = within-trans f.way.met a b f.within w }
+    widened a b k w f =
+        record {
+          way = f.way;
+          live = f.live;
+          at = f.at;
+          not_left = f.not_left;
+          within =
+              within-trans f.way.met a b f.within w;
+        }
 
     -- cut back to where k was left
     cut_back : {p : Way K E S} → Live g p → (k : K) → list_any (g.same k) p.left ≡ true → Fresh p.met k
     cut_back (start r) k h = absurd (cc)
     cut_back (go {p} {e} l fresh edge free) k h = by (λ r. cut_back l k r) (g.same k (g.target p.last)) refl
       where
-        by : (list_any (g.same k) p.left ≡ true → Fresh p.met k) → (t : Bool) → g.same k (g.target p.last) ≡ t → Fresh (g.join p.met (g.excludes e)) k
+        by : (list_any (g.same k) p.left ≡ true → Fresh p.met k) → (t : Bool) → g.same k (g.target p.last) ≡ t
+            → Fresh (g.join p.met (g.excludes e)) k
         by deeper true q =
             let at_k : k ≡ g.target p.last = lawful.decides k (g.target p.last) q in
-            record { way = p; live = l; at = sym at_k; not_left = subst (λ z. list_any (g.same z) p.left ≡ false) (sym at_k) fresh; within = within-front p.met (g.excludes e) }
+            record {
+              way = p;
+              live = l;
+              at = sym at_k;
+              not_left =
+                  subst (λ z. list_any (g.same z) p.left ≡ false) (sym at_k) fresh;
+              within =
+                  within-front p.met (g.excludes e);
+            }
         by deeper false q =
             let deep : list_any (g.same k) p.left ≡ true = rw q at h in
             widened p.met (g.join p.met (g.excludes e)) k (within-front p.met (g.excludes e)) (deeper deep)
@@ -85,8 +108,10 @@ module _ {K E S : Type 0} (g : Graph K E S) where
     fresh_of (next {n} {met} {last} {e} w edge free) =
         let f : Fresh met (g.target last) = fresh_of w in
         let l : Live g (step g f.way e) =
-        go f.live (subst (λ z. list_any (g.same z) f.way.left ≡ false) (sym f.at) f.not_left) (subst (λ z. In e (g.out z)) (sym f.at) edge) (kept_out f.way.met met f.within (g.target e) free)
-        in widened (g.join f.way.met (g.excludes e)) (g.join met (g.excludes e)) (g.target e) (within-join f.way.met met (g.excludes e) f.within) (fresh_at l)
+        go f.live (subst (λ z. list_any (g.same z) f.way.left ≡ false) (sym f.at) f.not_left)
+        (subst (λ z. In e (g.out z)) (sym f.at) edge) (kept_out f.way.met met f.within (g.target e) free)
+        in widened (g.join f.way.met (g.excludes e)) (g.join met (g.excludes e)) (g.target e)
+        (within-join f.way.met met (g.excludes e) f.within) (fresh_at l)
 
   -- a live path is a walk
   pub walk_of : {p : Way K E S} → Live g p → Walk (length p.left) p.met p.last

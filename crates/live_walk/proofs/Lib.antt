@@ -7,5 +7,6 @@ pub mod Answered
 pub mod Modules
 pub mod Rows
 pub mod States
+pub mod Inside
 pub mod Whole
 pub mod Renamed

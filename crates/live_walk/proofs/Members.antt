@@ -53,7 +53,8 @@ module _ {A : Type 0} where
             | inr k ↦ further (later k)
           ]
 
-      by : (In x (filter test xs) → Passed test x xs) → (t : Bool) → test y ≡ t → In x (cond t (y ∷ filter test xs) (filter test xs)) → Passed test x (y ∷ xs)
+      by : (In x (filter test xs) → Passed test x xs) → (t : Bool) → test y ≡ t
+          → In x (cond t (y ∷ filter test xs) (filter test xs)) → Passed test x (y ∷ xs)
       by later true e m = first e (filter test xs) m later
       by later false e m = further (later m)
 
@@ -75,9 +76,11 @@ module _ {A : Type 0} where
   in_from_any test [] h = absurd (cc)
   in_from_any test (x ∷ xs) h = by (in_from_any test xs) (test x) refl h
     where
-      by : (list_any test xs ≡ true → Passes test xs) → (t : Bool) → test x ≡ t → (t || list_any test xs) ≡ true → Passes test (x ∷ xs)
+      by : (list_any test xs ≡ true → Passes test xs) → (t : Bool) → test x ≡ t → (t || list_any test xs) ≡ true
+          → Passes test (x ∷ xs)
       by later true e m = record { one = x; member = here; passes = e }
-      by later false e m = let p : Passes test xs = later m in record { one = p.one; member = there p.member; passes = p.passes }
+      by later false e m = let p : Passes test xs =
+          later m in record { one = p.one; member = there p.member; passes = p.passes }
 
   pub in_get : (xs : List A) (i : ℕ) (d : A) → i < length xs → In (get_or xs i d) xs
   in_get [] i d h = absurd (omega (arith, h))
@@ -88,17 +91,20 @@ module _ {A : Type 0} where
   pub in_from_position : (test : A → Bool) (xs : List A) (place : ℕ) → position test xs ≡ Some place → Passes test xs
   in_from_position test [] place h = absurd (cc)
   in_from_position test (x ∷ xs) place h =
-      let k : (place < length (x ∷ xs)) × (test (get_or (x ∷ xs) place x) ≡ true) × ((i : ℕ) → i < place → test (get_or (x ∷ xs) i x) ≡ false) = position-Some test (x ∷ xs) place x h in
+      let k : (place < length (x ∷ xs)) × (test (get_or (x ∷ xs) place x) ≡ true)
+      × ((i : ℕ) → i < place → test (get_or (x ∷ xs) i x) ≡ false) = position-Some test (x ∷ xs) place x h in
       record { one = get_or (x ∷ xs) place x; member = in_get (x ∷ xs) place x k.0; passes = k.1 }
 
   -- tests that agree on members keep the same
   pub filter_same : (p q : A → Bool) (xs : List A) → ((x : A) → In x xs → p x ≡ q x) → filter p xs ≡ filter q xs
   filter_same p q [] h = refl
-  filter_same p q (x ∷ xs) h = let e : p x ≡ q x = h x here in let r : filter p xs ≡ filter q xs = filter_same p q xs (λ y m. h y (there m)) in rw (e, r)
+  filter_same p q (x ∷ xs) h = let e : p x ≡ q x = h x here in let r : filter p xs ≡ filter q xs =
+      filter_same p q xs (λ y m. h y (there m)) in rw (e, r)
 
 pub map_same : {A B : Type 0} (f g : A → B) (xs : List A) → ((x : A) → In x xs → f x ≡ g x) → map f xs ≡ map g xs
 map_same f g [] h = refl
-map_same f g (x ∷ xs) h = let e : f x ≡ g x = h x here in let r : map f xs ≡ map g xs = map_same f g xs (λ y m. h y (there m)) in rw (e, r)
+map_same f g (x ∷ xs) h = let e : f x ≡ g x = h x here in let r : map f xs ≡ map g xs =
+    map_same f g xs (λ y m. h y (there m)) in rw (e, r)
 
 module _ {A B : Type 0} (f : A → B) where
   pub in_map : {x : A} {xs : List A} → In x xs → In (f x) (map f xs)
@@ -116,7 +122,8 @@ module _ {A B : Type 0} (f : A → B) where
     where
       by : (z : B) → z ≡ f x → In y (z ∷ map f xs) → (In y (map f xs) → Mapped y xs) → Mapped y (x ∷ xs)
       by z e here later = record { one = x; member = here; is = e }
-      by z e (there m) later = let k : Mapped y xs = later m in record { one = k.one; member = there k.member; is = k.is }
+      by z e (there m) later = let k : Mapped y xs =
+          later m in record { one = k.one; member = there k.member; is = k.is }
 
 module _ {A B : Type 0} (f : A → List B) where
   pub in_flat_map : {x : A} {y : B} {xs : List A} → In x xs → In y (f x) → In y (flat_map f xs)
@@ -133,7 +140,8 @@ module _ {A B : Type 0} (f : A → List B) where
   from_flat_map y (x ∷ xs) h =
       elim (in_either (f x) (flat_map f xs) h) [
         | inl k ↦ record { one = x; member = here; inside = k }
-        | inr k ↦ (let m : FlatMapped y xs = from_flat_map y xs k in record { one = m.one; member = there m.member; inside = m.inside })
+        | inr k ↦ (let m : FlatMapped y xs =
+            from_flat_map y xs k in record { one = m.one; member = there m.member; inside = m.inside })
       ]
 
 pub both_ways : (s t : Bool) → (s ≡ true → t ≡ true) → (t ≡ true → s ≡ true) → s ≡ t

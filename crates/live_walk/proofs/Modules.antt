@@ -30,7 +30,8 @@ module_itself m = rw (text_itself m.org, text_itself m.name) refl
 
 pub module_same : (m n : Module) → module_eq m n ≡ true → m ≡ n
 module_same m n h =
-    let both : (text_eq m.org n.org ≡ true) × (text_eq m.name n.name ≡ true) = and_both (text_eq m.org n.org) (text_eq m.name n.name) h in
+    let both : (text_eq m.org n.org ≡ true) × (text_eq m.name n.name ≡ true) =
+    and_both (text_eq m.org n.org) (text_eq m.name n.name) h in
     let org : m.org ≡ n.org = text_same m.org n.org both.0 in
     let name : m.name ≡ n.name = text_same m.name n.name both.1 in
     let with_org : m ≡ record { org = n.org; name = m.name } = ap (λ z. record { org = z; name = m.name }) org in

@@ -1,5 +1,5 @@
 -- The graph of the code, whose modules are numbered.
-use Rattle.std.specs.Prelude.{◌≡◌, ⊤, ℕ, ◌<◌, Bool, false, not, List, [], ◌∷◌, All, length, map, slice_index_or, if◌then◌else◌}
+use Rattle.std.specs.Prelude.{◌≡◌, ⊤, ℕ, ◌<◌, Bool, false, not, ◌==◌, List, [], ◌∷◌, All, filter, length, map, slice_get, slice_index_or, unwrap_or, if◌then◌else◌}
 use Rattle.std.specs.List.{list_any}
 use Rattle.res_base.specs.Builders.{module_of}
 use Rattle.res_base.specs.Names.{module_eq}
@@ -18,7 +18,8 @@ pub record Step : Type 0 where
   pub target : Module
   pub excludes : ExclSet
 
-abbrev pub edge_graph : {E : Type 0} → (E → Module) → (E → ExclSet) → List E → (Module → List E) → Graph Module E ExclSet
+abbrev pub edge_graph : {E : Type 0} → (E → Module) → (E → ExclSet) → List E → (Module → List E)
+    → Graph Module E ExclSet
 edge_graph target excludes roots out =
     record {
       roots = roots;
@@ -32,6 +33,15 @@ edge_graph target excludes roots out =
 
 abbrev pub step_graph : List Step → (Module → List Step) → Graph Module Step ExclSet
 step_graph = edge_graph (λ (e : Step). e.target) (λ (e : Step). e.excludes)
+
+-- a graph whose edges are seen so
+abbrev pub seen_by : {E : Type 0} → (E → Module) → (E → ExclSet) → E → Step
+seen_by target excludes e = record { target = target e; excludes = excludes e }
+
+abbrev pub seen_as : {E : Type 0} → (E → Module) → (E → ExclSet) → List E → (Module → List E)
+    → Graph Module Step ExclSet
+seen_as target excludes roots out =
+    step_graph (map (seen_by target excludes) roots) (λ m. map (seen_by target excludes) (out m))
 
 abbrev pub module_at : List Module → ℕ → Module
 module_at modules place = slice_index_or modules place (module_of [] [])
@@ -99,9 +109,24 @@ AreWork count work = All (λ (item : Work). item.place < count) work
 
 -- which edges of each module some kept set does not bar
 abbrev pub lets_row : List Module → List Hop → List ExclSet → List Bool
-lets_row modules hops sets = map (λ (hop : Hop). list_any (λ set. not (is_excluded set (module_at modules hop.to))) sets) hops
+lets_row modules hops sets =
+    map (λ (hop : Hop). list_any (λ set. not (is_excluded set (module_at modules hop.to))) sets) hops
 
 abbrev pub lets_of : List Module → List (List Hop) → List (List ExclSet) → List (List Bool)
 lets_of modules [] table = []
 lets_of modules (hops ∷ out) [] = []
 lets_of modules (hops ∷ out) (sets ∷ table) = lets_row modules hops sets ∷ lets_of modules out table
+
+-- The edges that paths can go on behind: a path over another edge ends there.
+
+abbrev pub hops_at : List (List Hop) → ℕ → List Hop
+hops_at out place = unwrap_or (slice_get out place) []
+
+abbrev pub goes_on : List (List Hop) → ℕ → Bool
+goes_on out place = not (length (hops_at out place) == 0)
+
+abbrev pub inner_hops : List (List Hop) → List Hop → List Hop
+inner_hops out hops = filter (λ (hop : Hop). goes_on out hop.to) hops
+
+abbrev pub inner_out : List (List Hop) → List (List Hop)
+inner_out out = map (inner_hops out) out

@@ -1,4 +1,5 @@
--- Live paths: a root edge and the edges that follow it. No module is left twice, and no edge leads to a module that an edge before it excludes.
+-- Live paths: a root edge and the edges that follow it. No module is left twice, and no edge leads to a module that an
+-- edge before it excludes.
 use Rattle.std.specs.Prelude.{◌≡◌, ℕ, zero, suc, Bool, true, false, not, ◌&&◌, List, [], ◌∷◌, ◌++◌, filter, map, length, if◌then◌else◌}
 use Rattle.std.specs.List.{list_any, flat_map}
 use Rattle.live_walk.specs.Graphs.{Graph, In}
@@ -27,7 +28,8 @@ module _ {K E S : Type 0} (g : Graph K E S) where
 
   pub data Live : Way K E S → Type 0 where
     start : {e : E} → In e g.roots → Live (begin e)
-    go : {p : Way K E S} {e : E} → Live p → returns p ≡ false → In e (g.out (end_of p)) → g.bars p.met (g.target e) ≡ false → Live (step p e)
+    go : {p : Way K E S} {e : E} → Live p → returns p ≡ false → In e (g.out (end_of p))
+        → g.bars p.met (g.target e) ≡ false → Live (step p e)
 
   -- The same as a list that can be computed: by the number of edges.
 

@@ -23,7 +23,12 @@ update same table k kept j = if same j k then kept else table j
 module _ {K S : Type 0} (same : K → K → Bool) (within : S → S → Bool) where
   -- nothing is new where a kept set is within this one
   abbrev pub put_unless : Option ℕ → State K S → K → S → State K S
-  put_unless None s k set = record { table = update same s.table k (with_set within (s.table k) set); next = s.next ++ record { place = k; set = set } ∷ [] }
+  put_unless None s k set =
+      record {
+        table = update same s.table k (with_set within (s.table k) set);
+        next =
+            s.next ++ record { place = k; set = set } ∷ [];
+      }
   put_unless (Some place) s k set = s
 
   abbrev pub put : State K S → K → S → State K S

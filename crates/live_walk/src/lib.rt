@@ -2,8 +2,11 @@
 #![tactic(auto)]
 
 mod hop;
+mod inner;
+mod laws;
 mod put;
 mod walk;
 
 pub use hop::Hop;
+pub use laws::path_laws;
 pub use walk::followed;

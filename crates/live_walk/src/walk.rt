@@ -7,6 +7,7 @@ ghost use Rattle.live_walk.specs.Walks.{after_edges, after_item, after_items, af
 ghost use Rattle.res_base.specs.Names.{module_eq};
 
 use super::hop::Hop;
+use super::inner::inner_out;
 use super::put::put_in;
 use exclusion_sets::{Antichain, ExclSet, join_laws, within_laws};
 use res_base::{Copied, List, Module, NoMemory};
@@ -42,7 +43,8 @@ fn put(
     requires work { AreWork (length table.old) next.old }
     ensures size { length table.new ≡ length table.old }
     ensures work { AreWork (length table.old) next.new }
-    ensures put { OnOk result (state_of modules.now table.new next.new ≡ put_set module_eq is_within (state_of modules.now table.old next.old) (module_at modules.now place) set) }
+    ensures put { OnOk result (state_of modules.now table.new next.new
+        ≡ put_set module_eq is_within (state_of modules.now table.old next.old) (module_at modules.now place) set) }
 {
     let again = set.copy(alloc)?;
     if put_in(&mut table[place], set)? {
@@ -66,7 +68,9 @@ fn follow_edge(
     requires work { AreWork (length table.old) next.old }
     ensures size { length table.new ≡ length table.old }
     ensures work { AreWork (length table.old) next.new }
-    ensures after { OnOk result (state_of modules.now table.new next.new ≡ put_edge bare_graph is_within set.now (state_of modules.now table.old next.old) (hop_step modules.now hop.now)) }
+    ensures after { OnOk result (state_of modules.now table.new next.new
+        ≡ put_edge bare_graph is_within set.now (state_of modules.now table.old next.old)
+        (hop_step modules.now hop.now)) }
 {
     if set.excludes(module_of(modules, hop.to)) {
         return Ok(());
@@ -96,7 +100,9 @@ fn follow(
     requires work { AreWork (length table.old) next.old }
     ensures size { length table.new ≡ length table.old }
     ensures work { AreWork (length table.old) next.new }
-    ensures after { OnOk result (state_of modules.now table.new next.new ≡ after_edges bare_graph is_within set.now (state_of modules.now table.old next.old) (map (hop_step modules.now) hops.now)) }
+    ensures after { OnOk result (state_of modules.now table.new next.new
+        ≡ after_edges bare_graph is_within set.now (state_of modules.now table.old next.old)
+        (map (hop_step modules.now) hops.now)) }
 {
     for hop in hops {
         follow_edge(alloc, modules, table, next, set, hop)?;
@@ -121,7 +127,9 @@ fn follow_item(
     requires next { AreWork (length table.old) next.old }
     ensures size { length table.new ≡ length table.old }
     ensures next { AreWork (length table.old) next.new }
-    ensures after { OnOk result (state_of modules.now table.new next.new ≡ after_item (out_graph modules.now out.now) is_within (state_of modules.now table.old next.old) (item_of modules.now item.now)) }
+    ensures after { OnOk result (state_of modules.now table.new next.new
+        ≡ after_item (out_graph modules.now out.now) is_within (state_of modules.now table.old next.old)
+        (item_of modules.now item.now)) }
 {
     let hops = out[item.place].as_slice();
     follow(alloc, modules, table, next, &item.set, hops)
@@ -144,7 +152,9 @@ fn follow_all(
     requires next { AreWork (length table.old) next.old }
     ensures size { length table.new ≡ length table.old }
     ensures next { AreWork (length table.old) next.new }
-    ensures after { OnOk result (state_of modules.now table.new next.new ≡ after_items (out_graph modules.now out.now) is_within (state_of modules.now table.old next.old) (map (item_of modules.now) work.now)) }
+    ensures after { OnOk result (state_of modules.now table.new next.new
+        ≡ after_items (out_graph modules.now out.now) is_within (state_of modules.now table.old next.old)
+        (map (item_of modules.now) work.now)) }
 {
     for item in work {
         follow_item(alloc, modules, out, table, next, item)?;
@@ -167,7 +177,9 @@ fn start(
     requires work { AreWork (length table.old) next.old }
     ensures size { length table.new ≡ length table.old }
     ensures work { AreWork (length table.old) next.new }
-    ensures after { OnOk result (state_of modules.now table.new next.new ≡ after_roots bare_graph is_within (state_of modules.now table.old next.old) (map (root_step modules.now excluded.now) roots.now)) }
+    ensures after { OnOk result (state_of modules.now table.new next.new
+        ≡ after_roots bare_graph is_within (state_of modules.now table.old next.old)
+        (map (root_step modules.now excluded.now) roots.now)) }
 {
     for to in roots {
         put(alloc, modules, table, next, *to, excluded.copy(alloc)?)?;
@@ -189,7 +201,9 @@ fn go_levels(
     requires out { All (λ hops. AreHops (length modules.now) hops) out.now }
     requires work { AreWork (length table.old) first }
     ensures size { length table.new ≡ length table.old }
-    ensures after { OnOk result (table_of modules.now table.new ≡ (after_levels (out_graph modules.now out.now) is_within (length modules.now) (state_of modules.now table.old first)).table) }
+    ensures after { OnOk result (table_of modules.now table.new
+        ≡ (after_levels (out_graph modules.now out.now) is_within (length modules.now)
+        (state_of modules.now table.old first)).table) }
 {
     let mut work = first;
     for _level in 0..modules.len() {
@@ -227,7 +241,10 @@ fn run(
     requires roots { All (λ to. to < length modules.now) roots.now }
     requires out { All (λ hops. AreHops (length modules.now) hops) out.now }
     ensures size { length table.new ≡ length table.old }
-    ensures after { OnOk result (table_of modules.now table.new ≡ (after_levels (out_graph modules.now out.now) is_within (length modules.now) (after_roots bare_graph is_within (state_of modules.now table.old []) (map (root_step modules.now excluded.now) roots.now))).table) }
+    ensures after { OnOk result (table_of modules.now table.new
+        ≡ (after_levels (out_graph modules.now out.now) is_within (length modules.now)
+        (after_roots bare_graph is_within (state_of modules.now table.old [])
+        (map (root_step modules.now excluded.now) roots.now))).table) }
 {
     let mut first: List<Work> = List::new(alloc);
     start(alloc, modules, excluded, table, &mut first, roots)?;
@@ -298,11 +315,13 @@ fn walk_on(
     requires distinct { AreDistinct modules.now }
     requires roots { All (λ to. to < length modules.now) roots.now }
     requires out { All (λ hops. AreHops (length modules.now) hops) out.now }
-    ensures { IfOk result (λ made. made ≡ followed_by (hop_graph modules.now excluded.now roots.now out.now) modules.now) }
+    ensures { IfOk result (λ made. made
+        ≡ followed_by (hop_graph modules.now excluded.now roots.now out.now) modules.now) }
 {
     within_laws();
     join_laws();
-    run(alloc, modules, excluded, roots, out, table)?;
+    let inner = inner_out(alloc, out)?;
+    run(alloc, modules, excluded, roots, inner.as_slice(), table)?;
     all_flags(alloc, modules, out, table)
 }
 
@@ -323,7 +342,8 @@ pub fn followed(
     requires distinct { AreDistinct modules.now }
     requires roots { All (λ to. to < length modules.now) roots.now }
     requires out { All (λ hops. AreHops (length modules.now) hops) out.now }
-    ensures { IfOk result (λ made. made ≡ followed_by (hop_graph modules.now excluded.now roots.now out.now) modules.now) }
+    ensures { IfOk result (λ made. made
+        ≡ followed_by (hop_graph modules.now excluded.now roots.now out.now) modules.now) }
 {
     let mut table = empty_table(alloc, modules.len())?;
     walk_on(alloc, modules, excluded, roots, out, table.as_mut_slice())

@@ -2,6 +2,7 @@ pub mod BuildGrows
 pub mod BuildReads
 pub mod Chains
 pub mod Climbing
+pub mod Fields
 pub mod Found
 pub mod KeysGrow
 pub mod KeysSame

@@ -100,7 +100,7 @@ fn with_managed(
         repo: own.repo,
         packaging,
         deps,
-        managed: managed.into_rows(alloc)?,
+        managed: managed.into_rows(),
         moved: own.pom.moved.is_some(),
     })
 }

@@ -105,17 +105,14 @@ fn past_chain(
 }
 
 /// The list of the rows, where they are built.
-fn listed_rows(
-    alloc: Global,
-    outcome: Outcome<RowTable>,
-) -> Result<Outcome<List<DepRecord>>, NoMemory>
-    ensures { IfOk result (λ made. made ≡ outcome) }
+fn listed_rows(outcome: Outcome<RowTable>) -> Outcome<List<DepRecord>>
+    ensures { result ≡ outcome }
 {
     match outcome {
-        Outcome::Built(table) => Ok(Outcome::Built(table.into_rows(alloc)?)),
-        Outcome::Needs(keys) => Ok(Outcome::Needs(keys)),
-        Outcome::NotFound(why) => Ok(Outcome::NotFound(why)),
-        Outcome::Refused(fault) => Ok(Outcome::Refused(fault)),
+        Outcome::Built(table) => Outcome::Built(table.into_rows()),
+        Outcome::Needs(keys) => Outcome::Needs(keys),
+        Outcome::NotFound(why) => Outcome::NotFound(why),
+        Outcome::Refused(fault) => Outcome::Refused(fault),
     }
 }
 
@@ -175,7 +172,7 @@ fn managed_by_line(
 {
     let named = NamedLine::of(alloc, line)?;
     let rows = managed_with(alloc, known, left, chain, &named)?;
-    listed_rows(alloc, rows)
+    Ok(listed_rows(rows))
 }
 
 /// The managed list of a project that the chain does not have.

@@ -1,12 +1,12 @@
 //! What names stand for in the texts of a project.
-ghost use Rattle.std.specs.Prelude.{◌≡◌, ◌++◌, Some, IfOk, OnOk};
+ghost use Rattle.std.specs.Prelude.{◌≡◌, codes, Some, IfOk};
 ghost use Rattle.pom_build.specs.Names.{fill_in, is_field_name as field_name, org_part, part_of, version_part};
-ghost use Rattle.pom_build.specs.Puts.{put_all, put_coordinates, put_field, put_parent_of, put_project, put_projects, put_property, put_record};
+ghost use Rattle.pom_build.specs.Puts.{coordinates_under, parent_under, put_all, put_field, put_fields, put_project, put_projects, put_property, put_record};
 ghost use Rattle.row_lists.specs.RowLists.{or_text};
 
 use super::line::{Line, Project};
-use property_text::Values;
-use res_base::{Coord, Copied, NoMemory, PomRecord, Property, Text};
+use property_text::{CutValues, Values};
+use res_base::{Coord, NoMemory, PomRecord, Property, Text};
 use std::alloc::Global;
 use std::marker::Model;
 
@@ -14,7 +14,7 @@ use std::marker::Model;
 #[derive(Drop)]
 pub(crate) struct NamedLine<'a> {
     line: Line<'a>,
-    values: Values,
+    values: CutValues<'a>,
 }
 
 impl<'a> Model for NamedLine<'a> {
@@ -37,22 +37,17 @@ fn is_field_name(name: &[u8]) -> bool
 }
 
 /// Gives a field's name its value, unless the field is absent.
-fn put_present(
-    alloc: Global,
-    values: &mut Values,
-    prefix: &str,
-    name: &str,
-    value: &str,
-) -> Result<(), NoMemory>
-    ensures { OnOk result (values.new ≡ put_field values.old (prefix.now ++ name.now, value.now)) }
+fn put_present<'a>(
+    values: Values<'a>,
+    name: &'a str,
+    value: &'a str,
+) -> Result<Values<'a>, NoMemory>
+    ensures { IfOk result (λ made. made ≡ put_field values.entry (name.now, value.now)) }
 {
     if value.is_empty() {
-        return Ok(());
+        return Ok(values);
     }
-    let mut full = Text::of(alloc, prefix)?;
-    full.push_str(name)?;
-    values.put(full, Text::of(alloc, value)?)?;
-    Ok(())
+    values.with(name, value)
 }
 
 /// The record's own org, or else its parent's.
@@ -81,123 +76,142 @@ fn version_of(pom: &PomRecord) -> &str
     }
 }
 
-/// Puts in the coordinates of a record.
-#[tactic(auto, unfolding(crate::specs::Puts::put_coordinates))]
-fn put_short(
-    alloc: Global,
-    values: &mut Values,
-    prefix: &str,
-    pom: &PomRecord,
-) -> Result<(), NoMemory>
-    ensures { OnOk result (values.new ≡ put_coordinates values.old prefix.now pom.now) }
+/// Puts in the coordinates of a record, under these names.
+fn put_short<'a>(
+    values: Values<'a>,
+    org: &'a str,
+    name: &'a str,
+    version: &'a str,
+    pom: &'a PomRecord,
+) -> Result<Values<'a>, NoMemory>
+    ensures { IfOk result (λ made. made ≡ put_fields values.entry (coordinates_under org.now name.now version.now pom.now)) }
 {
-    put_present(alloc, values, prefix, "groupId", org_of(pom))?;
-    put_present(alloc, values, prefix, "artifactId", pom.name.as_str())?;
-    put_present(alloc, values, prefix, "version", version_of(pom))
+    let with_org = put_present(values, org, org_of(pom))?;
+    let with_name = put_present(with_org, name, pom.name.as_str())?;
+    put_present(with_name, version, version_of(pom))
 }
 
-/// Puts in the coordinates of a parent.
-#[tactic(auto, unfolding(crate::specs::Puts::put_parent_of))]
-fn put_parent(
-    alloc: Global,
-    values: &mut Values,
-    prefix: &str,
-    parent: &Coord,
-) -> Result<(), NoMemory>
-    ensures { OnOk result (values.new ≡ put_parent_of values.old prefix.now (Some parent.now)) }
+/// Puts in the coordinates of a parent, under these names.
+fn put_coord<'a>(
+    values: Values<'a>,
+    org: &'a str,
+    name: &'a str,
+    version: &'a str,
+    parent: &'a Coord,
+) -> Result<Values<'a>, NoMemory>
+    ensures { IfOk result (λ made. made ≡ put_fields values.entry (parent_under org.now name.now version.now (Some parent.now))) }
 {
-    put_present(
-        alloc,
+    let with_org = put_present(values, org, parent.module.org.as_str())?;
+    let with_name = put_present(with_org, name, parent.module.name.as_str())?;
+    put_present(with_name, version, parent.version.as_str())
+}
+
+/// Puts in the coordinates of a parent, if there is one, under these names.
+fn put_parent<'a>(
+    values: Values<'a>,
+    org: &'a str,
+    name: &'a str,
+    version: &'a str,
+    parent: &'a Option<Coord>,
+) -> Result<Values<'a>, NoMemory>
+    ensures { IfOk result (λ made. made ≡ put_fields values.entry (parent_under org.now name.now version.now parent.now)) }
+{
+    match parent {
+        None => Ok(values),
+        Some(parent) => put_coord(values, org, name, version, parent),
+    }
+}
+
+/// Puts in the fields of a record under `project.`.
+fn put_project_fields<'a>(values: Values<'a>, pom: &'a PomRecord) -> Result<Values<'a>, NoMemory>
+    ensures { IfOk result (λ made. made ≡ put_record values.entry (codes "project.") pom.now) }
+{
+    let coordinates = put_short(
         values,
-        prefix,
-        "parent.groupId",
-        parent.module.org.as_str(),
+        "project.groupId",
+        "project.artifactId",
+        "project.version",
+        pom,
     )?;
-    put_present(
-        alloc,
-        values,
-        prefix,
-        "parent.artifactId",
-        parent.module.name.as_str(),
-    )?;
-    put_present(
-        alloc,
-        values,
-        prefix,
-        "parent.version",
-        parent.version.as_str(),
+    let packaged = put_present(coordinates, "project.packaging", pom.packaging.as_str())?;
+    put_parent(
+        packaged,
+        "project.parent.groupId",
+        "project.parent.artifactId",
+        "project.parent.version",
+        &pom.parent,
     )
 }
 
-/// Puts in the fields of a record.
-#[tactic(auto, unfolding(crate::specs::Puts::put_coordinates, crate::specs::Puts::put_parent_of, crate::specs::Puts::put_record))]
-fn put_all_fields(
-    alloc: Global,
-    values: &mut Values,
-    prefix: &str,
-    pom: &PomRecord,
-) -> Result<(), NoMemory>
-    ensures { OnOk result (values.new ≡ put_record values.old prefix.now pom.now) }
+/// Puts in the fields of a record under `pom.`.
+fn put_pom_fields<'a>(values: Values<'a>, pom: &'a PomRecord) -> Result<Values<'a>, NoMemory>
+    ensures { IfOk result (λ made. made ≡ put_record values.entry (codes "pom.") pom.now) }
 {
-    put_short(alloc, values, prefix, pom)?;
-    put_present(alloc, values, prefix, "packaging", pom.packaging.as_str())?;
-    match &pom.parent {
-        None => Ok(()),
-        Some(parent) => put_parent(alloc, values, prefix, parent),
-    }
+    let coordinates = put_short(values, "pom.groupId", "pom.artifactId", "pom.version", pom)?;
+    let packaged = put_present(coordinates, "pom.packaging", pom.packaging.as_str())?;
+    put_parent(
+        packaged,
+        "pom.parent.groupId",
+        "pom.parent.artifactId",
+        "pom.parent.version",
+        &pom.parent,
+    )
 }
 
-fn put_one_property(alloc: Global, values: &mut Values, property: &Property) -> Result<(), NoMemory>
-    ensures { OnOk result (values.new ≡ put_property values.old (property.now.name, property.now.value)) }
+fn put_one_property<'a>(values: Values<'a>, property: &'a Property) -> Result<Values<'a>, NoMemory>
+    ensures { IfOk result (λ made. made ≡ put_property values.entry (property.now.name, property.now.value)) }
 {
     if is_field_name(property.name.as_bytes()) {
-        return Ok(());
+        return Ok(values);
     }
-    values.put(property.name.copy(alloc)?, property.value.copy(alloc)?)?;
-    Ok(())
+    values.with(property.name.as_str(), property.value.as_str())
 }
 
-fn put_all_properties(
-    alloc: Global,
-    values: &mut Values,
-    project: &Project<'_>,
-) -> Result<(), NoMemory>
-    ensures { OnOk result (values.new ≡ put_project values.old project.now) }
+fn put_all_properties<'a>(values: Values<'a>, project: &Project<'a>) -> Result<Values<'a>, NoMemory>
+    ensures { IfOk result (λ made. made ≡ put_project values.entry project.now) }
 {
+    let mut made = values;
     for property in project.pom.properties.as_slice() {
-        put_one_property(alloc, values, property)?;
+        made = put_one_property(made, property)?;
     }
-    Ok(())
+    Ok(made)
 }
 
-fn put_parents(alloc: Global, values: &mut Values, parents: &[Project<'_>]) -> Result<(), NoMemory>
-    ensures { OnOk result (values.new ≡ put_projects values.old parents.now) }
+fn put_parents<'a>(values: Values<'a>, parents: &[Project<'a>]) -> Result<Values<'a>, NoMemory>
+    ensures { IfOk result (λ made. made ≡ put_projects values.entry parents.now) }
 {
+    let mut made = values;
     for project in parents {
-        put_all_properties(alloc, values, project)?;
+        made = put_all_properties(made, project)?;
     }
-    Ok(())
+    Ok(made)
+}
+
+/// The project's own record.
+fn own_record<'a>(line: &Line<'a>) -> &'a PomRecord
+    ensures { result.now ≡ line.now.own.pom }
+{
+    line.own.pom
 }
 
 /// The fields of the project's own record, the properties, the nearest first, and the coordinates
-/// again.
-fn values_of(alloc: Global, line: &Line<'_>) -> Result<Values, NoMemory>
+/// again. All of it is borrowed.
+fn values_of<'a>(alloc: Global, line: &Line<'a>) -> Result<Values<'a>, NoMemory>
     ensures { IfOk result (λ made. made ≡ put_all line.now) }
 {
-    let mut values = Values::new(alloc);
-    put_all_fields(alloc, &mut values, "project.", line.own.pom)?;
-    put_all_fields(alloc, &mut values, "pom.", line.own.pom)?;
-    put_all_properties(alloc, &mut values, &line.own)?;
-    put_parents(alloc, &mut values, line.parents.as_slice())?;
-    put_short(alloc, &mut values, "", line.own.pom)?;
-    Ok(values)
+    let pom = own_record(line);
+    let fields = put_project_fields(Values::new(alloc), pom)?;
+    let all_fields = put_pom_fields(fields, pom)?;
+    let own = put_all_properties(all_fields, &line.own)?;
+    let all = put_parents(own, line.parents.as_slice())?;
+    put_short(all, "groupId", "artifactId", "version", pom)
 }
 
 impl<'a> NamedLine<'a> {
     pub fn of(alloc: Global, line: Line<'a>) -> Result<NamedLine<'a>, NoMemory>
         ensures { IfOk result (λ made. made ≡ line.entry) }
     {
-        let values = values_of(alloc, &line)?;
+        let values = CutValues::of(alloc, values_of(alloc, &line)?)?;
         Ok(NamedLine { line, values })
     }
 

@@ -1,9 +1,9 @@
 -- What is put at the end, and what goes past a limit.
-use Rattle.std.proofs.Common.{◌≡◌, ℕ, suc, ◌+◌, ◌<◌, ◌≤◌, Bool, true, false, Option, None, Some, List, [], ◌∷◌, ◌++◌, length, refl, sym, ◌∙◌, ap, subst, append_assoc, append-nil, length-append, arith}
+use Rattle.std.proofs.Common.{◌≡◌, ℕ, zero, suc, ◌+◌, ◌<◌, ◌≤◌, Bool, true, false, Option, None, Some, List, [], ◌∷◌, ◌++◌, length, refl, sym, ◌∙◌, ap, subst, append_assoc, append-nil, length-append, arith}
 use Rattle.property_text.specs.Segments.{Segment, literal, hole, with_byte, with_bytes, segments}
 use Rattle.std.specs.Prelude.{nat_le}
 use Rattle.std.proofs.lemmas.Bool.{le-leb, lt-leb}
-use Rattle.property_text.specs.Filled.{Filling, prefixed, followed, filled_hole, filled_segments, filled_value, within_size, filled}
+use Rattle.property_text.specs.Filled.{Filling, as_written, prefixed, followed, filled_hole, filled_segments, filled_value, within_size, filled}
 use Rattle.property_text.specs.Progress.{IsAppended, IsOutcome, IsPast, filling_of}
 use Rattle.property_text.specs.declared.fill.Progress.{Progress}
 
@@ -90,6 +90,21 @@ outcome-same false before before' more more' after e past = subst IsPast (sym e)
 pub filled-value : (value_of : List ℕ → Option (List ℕ)) (name value : List ℕ) (depth left lower fewer : ℕ) → value_of name ≡ Some value → depth ≡ suc lower → left ≡ suc fewer
     → filled_hole (filled_value value_of depth) name (value_of name) left ≡ filled_segments value_of (filled_value value_of lower) (segments value) fewer
 filled-value value_of name value depth left lower fewer e f g = rw (e, f, g) refl
+
+-- a name without a value
+pub unfilled : (value_of : List ℕ → Option (List ℕ)) (fill : List ℕ → ℕ → Option Filling) (name : List ℕ) (left : ℕ) → value_of name ≡ None
+    → filled_hole fill name (value_of name) left ≡ Some (record { text = as_written name; left = left })
+unfilled value_of fill name left e = rw e refl
+
+-- no value more
+pub too_deep : (value_of : List ℕ → Option (List ℕ)) (front name value : List ℕ) (depth left : ℕ) → value_of name ≡ Some value → depth ≡ zero
+    → IsPast (prefixed front (filled_hole (filled_value value_of depth) name (value_of name) left))
+too_deep value_of front name value depth zero e f = rw e tt
+too_deep value_of front name value depth (suc left) e f = rw (e, f) tt
+
+pub too_many : (value_of : List ℕ → Option (List ℕ)) (front name value : List ℕ) (depth left : ℕ) → value_of name ≡ Some value → left ≡ zero
+    → IsPast (prefixed front (filled_hole (filled_value value_of depth) name (value_of name) left))
+too_many value_of front name value depth left e f = rw (e, f) tt
 
 within-fits : (size : ℕ) (text : List ℕ) (after : Filling) → length after.text ≤ size → within_size size text (Some after) ≡ after.text
 within-fits size text after fits = let e : nat_le (length after.text) size ≡ true = le-leb (length after.text) size fits in rw e refl

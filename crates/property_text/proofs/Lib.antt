@@ -1,3 +1,4 @@
+pub mod CutLemmas
 pub mod FillLemmas
 pub mod LawLemmas
 pub mod SegmentLemmas

@@ -1,3 +1,4 @@
+pub mod Cuts
 pub mod Filled
 pub mod Laws
 pub mod Progress

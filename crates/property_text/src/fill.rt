@@ -1,14 +1,15 @@
 //! Texts, filled.
-ghost use Rattle.std.specs.Prelude.{◌≡◌, ◌++◌, ◌≤◌, length, IfOk};
+ghost use Rattle.std.specs.Prelude.{◌≡◌, ◌≤◌, All, length, IfOk};
+ghost use Rattle.property_text.specs.Cuts.{IsPlaced, segments_of};
 ghost use Rattle.property_text.specs.Filled.{as_written, filled, filled_hole, filled_segments, filled_value};
 ghost use Rattle.property_text.specs.Progress.{IsAppended, IsOutcome, filling_of};
-ghost use Rattle.property_text.specs.Segments.{segments};
 ghost use Rattle.property_text.specs.Values.{value_in};
 
-use super::holes::first_hole;
+use super::cuts::{Cut, CutHole};
 use super::values::Values;
 use res_base::{Copied, NoMemory, Text};
 use std::alloc::Global;
+use std::marker::Model;
 
 /// How many values may stand in one another.
 const DEPTH: u32 = 32;
@@ -50,22 +51,55 @@ impl Progress {
     }
 }
 
-impl Values {
-    /// Puts the value of a name at the end, filled in turn, where so many values may stand in one
-    /// another. Says whether that is within the limits.
-    #[cycle(fill)]
-    fn push_value(&self, name: &str, depth: u32, progress: &mut Progress) -> Result<bool, NoMemory>
-        requires { length progress.old.text ≤ SIZE }
-        ensures { IfOk result (λ within. IsOutcome within (filling_of progress.old) (filled_hole (filled_value (value_in self.now) depth) name.now (value_in self.now name.now) progress.old.left) (filling_of progress.new)) }
+/// Values that are cut, each name in them looked up once: a use of a value costs what it puts into
+/// a text, and not the length of the value. Contracts see the pairs.
+#[derive(Drop)]
+pub struct CutValues<'a> {
+    values: Values<'a>,
+    cuts: Vec<Cut<'a>>,
+}
+
+impl<'a> Model for CutValues<'a> {
+    ghost use Rattle.std.specs.Prelude.{List};
+    ghost use Rattle.property_text.specs.Cuts.{AreCut};
+    ghost use Rattle.property_text.specs.Values.{Pair};
+
+    ghost Value = { List Pair };
+
+    ghost view = { λ made. made.values };
+
+    ghost invariant = { λ made. AreCut made.values made.values made.cuts.items };
+}
+
+impl<'a> CutValues<'a> {
+    pub fn of(alloc: Global, values: Values<'a>) -> Result<CutValues<'a>, NoMemory>
+        ensures { IfOk result (λ made. made ≡ values.entry) }
     {
-        match self.value(name) {
-            None => progress.push_written(name),
-            Some(value) => {
+        let cuts = values.cuts(alloc)?;
+        Ok(CutValues { values, cuts })
+    }
+
+    /// Puts a hole at the end, filled where its name has a value, and so many values may stand in
+    /// one another. Says whether that is within the limits.
+    #[cycle(fill)]
+    fn push_hole(
+        &self,
+        hole: &CutHole<'_>,
+        depth: u32,
+        progress: &mut Progress,
+    ) -> Result<bool, NoMemory>
+        requires size { length progress.old.text ≤ SIZE }
+        requires placed { IsPlaced self.now hole.now }
+        ensures { IfOk result (λ within. IsOutcome within (filling_of progress.old) (filled_hole (filled_value (value_in self.now) depth) hole.now.name.now (value_in self.now hole.now.name.now) progress.old.left) (filling_of progress.new)) }
+    {
+        match hole.place {
+            None => progress.push_written(hole.name),
+            Some(place) => {
                 if depth == 0 || progress.left == 0 {
                     return Ok(false);
                 }
                 progress.left -= 1;
-                self.push_filled(value.as_str(), depth - 1, progress)
+                self.push_cut(&self.cuts[place], depth - 1, progress)
             }
         }
     }
@@ -73,21 +107,20 @@ impl Values {
     /// Puts a text at the end, filled, where so many values may stand in one another. Says whether
     /// that is within the limits.
     #[cycle(fill)]
-    fn push_filled(&self, text: &str, depth: u32, progress: &mut Progress) -> Result<bool, NoMemory>
-        requires { length progress.old.text ≤ SIZE }
-        ensures { IfOk result (λ within. IsOutcome within (filling_of progress.old) (filled_segments (value_in self.now) (filled_value (value_in self.now) depth) (segments text.now) progress.old.left) (filling_of progress.new)) }
+    fn push_cut(&self, cut: &Cut<'_>, depth: u32, progress: &mut Progress) -> Result<bool, NoMemory>
+        requires size { length progress.old.text ≤ SIZE }
+        requires placed { All (IsPlaced self.now) cut.now.holes.items }
+        ensures { IfOk result (λ within. IsOutcome within (filling_of progress.old) (filled_segments (value_in self.now) (filled_value (value_in self.now) depth) (segments_of cut.now) progress.old.left) (filling_of progress.new)) }
     {
-        let mut rest = text;
-        while let Some(hole) = first_hole(rest) {
+        for hole in &cut.holes {
             if !progress.push(hole.before)? {
                 return Ok(false);
             }
-            if !self.push_value(hole.name, depth, progress)? {
+            if !self.push_hole(hole, depth, progress)? {
                 return Ok(false);
             }
-            rest = hole.behind;
         }
-        progress.push(rest)
+        progress.push(cut.rest)
     }
 
     /// A text with the values of its names in their places: `${name}`, up to the next `}`, gives
@@ -99,11 +132,12 @@ impl Values {
     pub fn fill(&self, alloc: Global, text: &Text) -> Result<Text, NoMemory>
         ensures { IfOk result (λ made. made ≡ filled (value_in self.now) text.now) }
     {
+        let cut = self.values.cut(alloc, text.as_str())?;
         let mut progress = Progress {
             text: Text::new(alloc),
             left: COUNT,
         };
-        if self.push_filled(text.as_str(), DEPTH, &mut progress)? {
+        if self.push_cut(&cut, DEPTH, &mut progress)? {
             let Progress { text, .. } = progress;
             Ok(text)
         } else {

@@ -1,12 +1,8 @@
 //! The calls, with ample memory.
 use super::*;
-use res_base::{NoMemory, Text};
+use res_base::{List, NoMemory, Text};
 use std::alloc::Global;
 use std::test::Fail;
-
-fn put(alloc: Global, values: &mut Values, name: &str, value: &str) -> Result<bool, NoMemory> {
-    values.put(Text::of(alloc, name)?, Text::of(alloc, value)?)
-}
 
 /// A text so many times.
 fn times(alloc: Global, count: usize, text: &str) -> Result<Text, NoMemory> {
@@ -18,12 +14,21 @@ fn times(alloc: Global, count: usize, text: &str) -> Result<Text, NoMemory> {
 }
 
 /// Whether a text is filled to another one.
-fn fills(alloc: Global, values: &Values, text: &Text, wanted: &str) -> Result<bool, NoMemory> {
+fn fills(
+    alloc: Global,
+    values: &CutValues<'_>,
+    text: &Text,
+    wanted: &str,
+) -> Result<bool, NoMemory> {
     Ok(values.fill(alloc, text)?.as_str() == wanted)
 }
 
 /// Whether each text is filled to the one beside it.
-fn fill_all(alloc: Global, values: &Values, rows: &[(&str, &str)]) -> Result<bool, NoMemory> {
+fn fill_all(
+    alloc: Global,
+    values: &CutValues<'_>,
+    rows: &[(&str, &str)],
+) -> Result<bool, NoMemory> {
     for row in rows {
         if !fills(alloc, values, &Text::of(alloc, row.0)?, row.1)? {
             return Ok(false);
@@ -32,27 +37,54 @@ fn fill_all(alloc: Global, values: &Values, rows: &[(&str, &str)]) -> Result<boo
     Ok(true)
 }
 
-/// `1` to `33`, each with the next in its value, and short, wide, endless and empty ones.
-fn sample(alloc: Global) -> Result<Values, NoMemory> {
-    let mut values = Values::new(alloc);
+/// Names and values that the samples borrow.
+#[derive(Drop)]
+struct Texts {
+    names: List<Text>,
+    values: List<Text>,
+    row: Text,
+    wide: Text,
+}
+
+/// `1` to `32`, each with the next in its value, a row of empty ones, and a wide one.
+fn make_texts(alloc: Global) -> Result<Texts, NoMemory> {
+    let mut names: List<Text> = List::new(alloc);
+    let mut values: List<Text> = List::new(alloc);
     for number in 1..33u32 {
-        let name = Text::from_string(format!(in alloc; "{number}")?);
+        names.push(Text::from_string(format!(in alloc; "{number}")?))?;
         let next = number + 1;
-        values.put(name, Text::from_string(format!(in alloc; "${{{next}}}")?))?;
+        values.push(Text::from_string(format!(in alloc; "${{{next}}}")?))?;
     }
-    put(alloc, &mut values, "33", "x")?;
-    put(alloc, &mut values, "v", "${v}")?;
-    put(alloc, &mut values, "none", "")?;
-    values.put(Text::of(alloc, "row")?, times(alloc, 31, "${none}")?)?;
-    values.put(Text::of(alloc, "wide")?, times(alloc, 65535, ".")?)?;
-    Ok(values)
+    Ok(Texts {
+        names,
+        values,
+        row: times(alloc, 31, "${none}")?,
+        wide: times(alloc, 65535, ".")?,
+    })
+}
+
+/// `1` to `33`, each with the next in its value, and short, wide, endless and empty ones.
+fn sample<'a>(alloc: Global, texts: &'a Texts) -> Result<CutValues<'a>, NoMemory> {
+    let mut values: Values<'a> = Values::new(alloc);
+    let chain = texts.names.as_slice().iter().zip(texts.values.as_slice());
+    for (name, value) in chain {
+        values = values.with(name.as_str(), value.as_str())?;
+    }
+    let values = values
+        .with("33", "x")?
+        .with("33", "y")?
+        .with("v", "${v}")?
+        .with("none", "")?
+        .with("row", texts.row.as_str())?
+        .with("wide", texts.wide.as_str())?;
+    CutValues::of(alloc, values)
 }
 
 #[test]
 fn fills_texts(rt: HostRuntime) -> Result<(), Fail> {
     let alloc = rt.alloc();
-    let mut values = sample(alloc)?;
-    let again = put(alloc, &mut values, "33", "y")?;
+    let texts = make_texts(alloc)?;
+    let values = sample(alloc, &texts)?;
     let rows = [
         ("a$b{33}", "a$b{33}"),
         ("<${32}>${33}${none}.", "<x>x."),
@@ -65,14 +97,15 @@ fn fills_texts(rt: HostRuntime) -> Result<(), Fail> {
         ("${2}${1}", "${2}${1}"),
     ];
     let all = fill_all(alloc, &values, &rows)?;
-    assert!(rt; all && !again && values.value("33").is_some() && values.value("34").is_none());
+    assert!(rt; all);
     Ok(())
 }
 
 #[test]
 fn keeps_limits(rt: HostRuntime) -> Result<(), Fail> {
     let alloc = rt.alloc();
-    let values = sample(alloc)?;
+    let texts = make_texts(alloc)?;
+    let values = sample(alloc, &texts)?;
     // 32 replacements each.
     let most = times(alloc, 32, "${row}")?;
     let mut more = times(alloc, 32, "${row}")?;

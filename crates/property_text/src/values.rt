@@ -1,67 +1,80 @@
 //! Values under names.
-ghost use Rattle.std.specs.Prelude.{◌≡◌, [], IfOk, OnOk, OnErr, is_none};
+ghost use Rattle.std.specs.Prelude.{◌≡◌, [], IfOk};
 ghost use Rattle.std.specs.Option.{option_copied};
-ghost use Rattle.property_text.specs.Values.{texts_of, value_in, with_value};
+ghost use Rattle.property_text.specs.Values.{place_of, seen, value_in, with_value};
 
-use indexmap::IndexMap;
-use res_base::{NoMemory, Text};
+use res_base::NoMemory;
 use std::alloc::Global;
+use std::collections::BTreeMap;
 use std::marker::Model;
 
-/// Values under distinct names. Contracts see the pairs, in the order in which they came.
+/// Values under distinct names, in the order in which they came. Both stand elsewhere. Contracts
+/// see the pairs.
 #[derive(Drop)]
-pub struct Values {
-    table: IndexMap<String, Text>,
+pub struct Values<'a> {
+    pairs: Vec<(&'a str, &'a str)>,
+    /// The place of each name among the pairs, in an ordered table: strangers choose the names.
+    places: BTreeMap<&'a str, usize>,
 }
 
-impl Model for Values {
-    ghost use Rattle.std.specs.Prelude.{List, ℕ};
-    ghost use Rattle.property_text.specs.Values.{texts_of};
+impl<'a> Model for Values<'a> {
+    ghost use Rattle.std.specs.Prelude.{List};
+    ghost use Rattle.property_text.specs.Values.{HasPlaces, Pair, seen};
 
-    ghost Value = { List (List ℕ × List ℕ) };
+    ghost Value = { List Pair };
 
-    ghost view = { λ values. texts_of values.table.entries };
+    ghost view = { λ values. seen values.pairs.items };
+
+    ghost invariant = { λ values. HasPlaces (seen values.pairs.items) values.places };
 }
 
-/// Puts a value last in a table without its name.
-fn put_last(table: &mut IndexMap<String, Text>, name: Text, value: Text) -> Result<bool, NoMemory>
-    ensures new { IfOk result (λ new. new ≡ is_none (value_in (texts_of table.old.entries) name)) }
-    ensures ok { OnOk result (texts_of table.new.entries ≡ with_value (texts_of table.old.entries) name value) }
-    ensures unchanged { OnErr result (table.new.entries ≡ table.old.entries) }
-{
-    let name = name.into_string();
-    if table.contains_key(name.as_str()) {
-        return Ok(false);
-    }
-    match table.insert(name, value) {
-        Ok(_) => Ok(true),
-        Err(_) => Err(NoMemory),
-    }
-}
-
-impl Values {
-    pub fn new(alloc: Global) -> Values
+impl<'a> Values<'a> {
+    pub fn new(alloc: Global) -> Values<'a>
         ensures { result ≡ [] }
     {
         Values {
-            table: IndexMap::new(alloc),
+            pairs: Vec::new(alloc),
+            places: BTreeMap::new(alloc),
         }
     }
 
-    /// Gives a name its value and says true, or says false and changes nothing where the name has
-    /// one: the first value of a name counts. After `NoMemory` nothing has changed.
-    pub fn put(&mut self, name: Text, value: Text) -> Result<bool, NoMemory>
-        ensures new { IfOk result (λ new. new ≡ is_none (value_in self.old name)) }
-        ensures ok { OnOk result (self.new ≡ with_value self.old name value) }
-        ensures unchanged { OnErr result (self.new ≡ self.old) }
+    /// The values with that of one more name, unless the name has one: the first value of a name
+    /// counts.
+    pub fn with(self, name: &'a str, value: &'a str) -> Result<Values<'a>, NoMemory>
+        ensures { IfOk result (λ made. made ≡ with_value self.entry name.now value.now) }
     {
-        put_last(&mut self.table, name, value)
+        let Values {
+            mut pairs,
+            mut places,
+        } = self;
+        if places.contains_key(name) {
+            return Ok(Values { pairs, places });
+        }
+        places.insert(name, pairs.len())?;
+        pairs.push((name, value))?;
+        Ok(Values { pairs, places })
+    }
+
+    pub(crate) fn pairs(&self) -> &[(&'a str, &'a str)]
+        ensures { seen result.now ≡ self.now }
+    {
+        &self.pairs
+    }
+
+    /// The place of a name.
+    pub(crate) fn place(&self, name: &str) -> Option<usize>
+        ensures { result ≡ place_of self.now name.now }
+    {
+        self.places.get(name).copied()
     }
 
     /// The value of a name.
-    pub fn value(&self, name: &str) -> Option<&Text>
+    pub fn value(&self, name: &str) -> Option<&'a str>
         ensures { option_copied result ≡ value_in self.now name.now }
     {
-        self.table.get(name)
+        match self.place(name) {
+            None => None,
+            Some(place) => Some(self.pairs[place].1),
+        }
     }
 }

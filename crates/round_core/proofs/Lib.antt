@@ -19,3 +19,8 @@ pub mod Reached
 pub mod Turning
 pub mod Apart
 pub mod Made
+pub mod AskedFor
+pub mod RequestKeys
+pub mod Walked
+pub mod Ended
+pub mod Settlement

@@ -16,13 +16,17 @@ pub map_more : {A B : Type 0} (f : A → B) (xs : List A) (x : A) → map f (xs 
 map_more f [] x = refl
 map_more f (y ∷ xs) x = ap (λ z. f y ∷ z) (map_more f xs x)
 
-pub candidates_more : (interval : Interval (List ℕ)) (xs ys : List (List ℕ)) → candidates interval (xs ++ ys) ≡ candidates interval xs ++ candidates interval ys
-candidates_more interval xs ys = ap (filter (λ version. holds items_cmp interval version)) (filter_map-append plain_in xs ys) ∙ filter-append (λ version. holds items_cmp interval version) (filter_map plain_in xs) (filter_map plain_in ys)
+pub candidates_more : (interval : Interval (List ℕ)) (xs ys : List (List ℕ)) → candidates interval (xs ++ ys)
+    ≡ candidates interval xs ++ candidates interval ys
+candidates_more interval xs ys =
+    ap (filter (λ version. holds items_cmp interval version)) (filter_map-append plain_in xs ys)
+    ∙ filter-append (λ version. holds items_cmp interval version) (filter_map plain_in xs) (filter_map plain_in ys)
 
 pub none_left : (o : Option Offer) → ((offer : Offer) → o ≡ Some offer → ⊥) → o ≡ None
 none_left None h = refl
 none_left (Some offer) h = absurd (h offer refl)
 
-pub clashes_kept : (rows : List ClashRow) (otherwise : Verdict) → (rows ≡ [] → ⊥) → Clashes rows ≡ unless_clashes rows otherwise
+pub clashes_kept : (rows : List ClashRow) (otherwise : Verdict) → (rows ≡ [] → ⊥)
+    → Clashes rows ≡ unless_clashes rows otherwise
 clashes_kept [] otherwise h = absurd (h refl)
 clashes_kept (row ∷ rows) otherwise h = refl

@@ -26,11 +26,16 @@ number_cmp_eq a b = grind (arith, nat_tests)
 
 key_cmp_eq : (a b : FileKey) → is_eq (key_cmp a b) ≡ key_eq a b
 key_cmp_eq a b =
-    then_eq (ordering_then (nat_cmp a.repo b.repo) (text_cmp a.path b.path)) (nat_cmp (role_number a.role) (role_number b.role))
-    ∙ ap (λ t. t && is_eq (nat_cmp (role_number a.role) (role_number b.role))) (then_eq (nat_cmp a.repo b.repo) (text_cmp a.path b.path))
-    ∙ ap (λ t. (t && is_eq (text_cmp a.path b.path)) && is_eq (nat_cmp (role_number a.role) (role_number b.role))) (number_cmp_eq a.repo b.repo)
-    ∙ ap (λ t. (nat_eq a.repo b.repo && t) && is_eq (nat_cmp (role_number a.role) (role_number b.role))) (is_eq-slice_cmp a.path b.path)
-    ∙ ap (λ t. (nat_eq a.repo b.repo && text_eq a.path b.path) && t) (number_cmp_eq (role_number a.role) (role_number b.role))
+    then_eq (ordering_then (nat_cmp a.repo b.repo) (text_cmp a.path b.path))
+    (nat_cmp (role_number a.role) (role_number b.role))
+    ∙ ap (λ t. t && is_eq (nat_cmp (role_number a.role) (role_number b.role)))
+    (then_eq (nat_cmp a.repo b.repo) (text_cmp a.path b.path))
+    ∙ ap (λ t. (t && is_eq (text_cmp a.path b.path)) && is_eq (nat_cmp (role_number a.role) (role_number b.role)))
+    (number_cmp_eq a.repo b.repo)
+    ∙ ap (λ t. (nat_eq a.repo b.repo && t) && is_eq (nat_cmp (role_number a.role) (role_number b.role)))
+    (is_eq-slice_cmp a.path b.path)
+    ∙ ap (λ t. (nat_eq a.repo b.repo && text_eq a.path b.path) && t)
+    (number_cmp_eq (role_number a.role) (role_number b.role))
 
 pub same_key : ((a b : FileKey) → (key_eq a b ≡ true) ↔ (a ≡ b)) → (a b : FileKey) → key_cmp a b ≡ Equal → a ≡ b
 same_key decided a b h = (decided a b).0 (sym (key_cmp_eq a b) ∙ ap is_eq h)

@@ -18,20 +18,49 @@ use Rattle.round_core.specs.declared.reach.Reached.{Reached}
 use Rattle.round_core.proofs.Named.{named_distinct}
 use Rattle.round_core.proofs.Seen.{seen_is_last}
 
-module _ (laws : SetLaws) (known : Known) (ask : Ask) (chosen : List ChoiceRow) (distinct : AreDistinct (modules_of chosen)) where
-  last_is : (edges : List (List RowEdge)) (last : List RowEdge) → edges ≡ all_edges ask.configuration (projects_in known ask.repos chosen) → last ≡ seen_last (names_of chosen ask.roots edges) ask.excludes ask.roots edges → last ≡ last_ones known ask chosen
-  last_is edges last made is = is ∙ ap (λ (es : List (List RowEdge)). seen_last (names_of chosen ask.roots es) ask.excludes ask.roots es) made ∙ seen_is_last known ask chosen laws distinct
+module _ (laws : SetLaws) (known : Known) (ask : Ask) (chosen : List ChoiceRow)
+    (distinct : AreDistinct (modules_of chosen)) where
+  last_is : (edges : List (List RowEdge)) (last : List RowEdge)
+      → edges ≡ all_edges ask.configuration (projects_in known ask.repos chosen)
+      → last ≡ seen_last (names_of chosen ask.roots edges) ask.excludes ask.roots edges
+      → last ≡ last_ones known ask chosen
+  last_is edges last made is =
+      is ∙ ap (λ (es : List (List RowEdge)). seen_last (names_of chosen ask.roots es) ask.excludes ask.roots es) made
+      ∙ seen_is_last known ask chosen laws distinct
 
-  pub reached_is : (table : List Module) (projects : List (Option ChosenProject)) (boms : List ChosenProject) (edges : List (List RowEdge)) (last : List RowEdge)
-      → table ≡ named [] (modules_of chosen) → projects ≡ projects_in known ask.repos chosen → boms ≡ projects_of known ask.repos ask.boms
-      → edges ≡ all_edges ask.configuration projects → last ≡ seen_last (names_of chosen ask.roots edges) ask.excludes ask.roots edges
+  pub reached_is : (table : List Module) (projects : List (Option ChosenProject)) (boms : List ChosenProject)
+      (edges : List (List RowEdge)) (last : List RowEdge)
+      → table ≡ named [] (modules_of chosen) → projects ≡ projects_in known ask.repos chosen
+      → boms ≡ projects_of known ask.repos ask.boms
+      → edges ≡ all_edges ask.configuration projects
+      → last ≡ seen_last (names_of chosen ask.roots edges) ask.excludes ask.roots edges
       → record { table = table; projects = projects; boms = boms; last = last } ≡ reached_of known ask chosen
   reached_is table projects boms edges last of_table of_projects of_boms of_edges of_last =
-      let same : last ≡ last_ones known ask chosen = last_is edges last (of_edges ∙ ap (all_edges ask.configuration) of_projects) of_last in
-      ap (λ (z : List Module). record { table = z; projects = projects; boms = boms; last = last }) (of_table ∙ named_distinct [] (modules_of chosen) distinct)
-      ∙ ap (λ (z : List (Option ChosenProject)). record { table = modules_of chosen; projects = z; boms = boms; last = last }) of_projects
-      ∙ ap (λ (z : List ChosenProject). record { table = modules_of chosen; projects = projects_in known ask.repos chosen; boms = z; last = last }) of_boms
-      ∙ ap (λ (z : List RowEdge). record { table = modules_of chosen; projects = projects_in known ask.repos chosen; boms = projects_of known ask.repos ask.boms; last = z }) same
+      let same : last ≡ last_ones known ask chosen =
+      last_is edges last (of_edges ∙ ap (all_edges ask.configuration) of_projects) of_last in
+      ap (λ (z : List Module). record { table = z; projects = projects; boms = boms; last = last }) (of_table
+      ∙ named_distinct [] (modules_of chosen) distinct)
+      ∙ ap (λ (z : List (Option ChosenProject)). record {
+        table = modules_of chosen;
+        projects = z;
+        boms = boms;
+        last =
+            last;
+      }) of_projects
+      ∙ ap (λ (z : List ChosenProject). record {
+        table = modules_of chosen;
+        projects =
+            projects_in known ask.repos chosen;
+        boms = z;
+        last = last;
+      }) of_boms
+      ∙ ap (λ (z : List RowEdge). record {
+        table = modules_of chosen;
+        projects =
+            projects_in known ask.repos chosen;
+        boms = projects_of known ask.repos ask.boms;
+        last = z;
+      }) same
 
 pub if_any : {T F : Type 0} (r : Result T F) {Q : T → Type 0} → ((x : T) → Q x) → IfOk r Q
 if_any (Ok x) f = f x

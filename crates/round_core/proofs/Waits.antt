@@ -66,7 +66,8 @@ contains_in x xs h = at xs h.0 h.1 h.2
 pub in_contains : (x : FileKey) (xs : List FileKey) → In x xs → Contains xs x
 in_contains x [] h = elim h [ ]
 in_contains x (y ∷ ys) here = (0, omega arith, refl)
-in_contains x (y ∷ ys) (there h) = let r : Contains ys x = in_contains x ys h in (suc r.0, (let l : r.0 < length ys = r.1 in omega (arith, l)), r.2)
+in_contains x (y ∷ ys) (there h) = let r : Contains ys x =
+    in_contains x ys h in (suc r.0, (let l : r.0 < length ys = r.1 in omega (arith, l)), r.2)
 
 -- ---- keys in order
 
@@ -80,7 +81,9 @@ module _ (same_key : (a b : FileKey) → key_cmp a b ≡ Equal → a ≡ b) wher
   in_key x k [] h = elim (in_cons x k [] h) [ inl q ↦ inl q | inr i ↦ elim i [ ] ]
   in_key x k (y ∷ keys) h = by (in_key x k keys) (key_cmp k y) h
     where
-      by : (In x (insert_key key_cmp keys k) → (x ≡ k) ⊎ In x keys) → (o : Ordering) → In x (match_ordering o (k ∷ y ∷ keys) (y ∷ keys) (y ∷ insert_key key_cmp keys k)) → (x ≡ k) ⊎ In x (y ∷ keys)
+      by : (In x (insert_key key_cmp keys k) → (x ≡ k) ⊎ In x keys) → (o : Ordering)
+          → In x (match_ordering o (k ∷ y ∷ keys) (y ∷ keys) (y ∷ insert_key key_cmp keys k))
+          → (x ≡ k) ⊎ In x (y ∷ keys)
       by later Less i = in_cons x k (y ∷ keys) i
       by later Equal i = inr i
       by later Greater i =
@@ -93,7 +96,8 @@ module _ (same_key : (a b : FileKey) → key_cmp a b ≡ Equal → a ≡ b) wher
   key_in k [] = here
   key_in k (y ∷ keys) = by (key_in k keys) (key_cmp k y) refl
     where
-      by : In k (insert_key key_cmp keys k) → (o : Ordering) → key_cmp k y ≡ o → In k (match_ordering o (k ∷ y ∷ keys) (y ∷ keys) (y ∷ insert_key key_cmp keys k))
+      by : In k (insert_key key_cmp keys k) → (o : Ordering) → key_cmp k y ≡ o
+          → In k (match_ordering o (k ∷ y ∷ keys) (y ∷ keys) (y ∷ insert_key key_cmp keys k))
       by later Less e = here
       by later Equal e = subst (λ z. In k (z ∷ keys)) (same_key k y e) here
       by later Greater e = there later
@@ -102,10 +106,16 @@ module _ (same_key : (a b : FileKey) → key_cmp a b ≡ Equal → a ≡ b) wher
   others_in x k [] h = elim h [ ]
   others_in x k (y ∷ keys) h = by (others_in x k keys) (key_cmp k y) h
     where
-      by : (In x keys → In x (insert_key key_cmp keys k)) → (o : Ordering) → In x (y ∷ keys) → In x (match_ordering o (k ∷ y ∷ keys) (y ∷ keys) (y ∷ insert_key key_cmp keys k))
+      by : (In x keys → In x (insert_key key_cmp keys k)) → (o : Ordering) → In x (y ∷ keys)
+          → In x (match_ordering o (k ∷ y ∷ keys) (y ∷ keys) (y ∷ insert_key key_cmp keys k))
       by later Less i = there i
       by later Equal i = i
-      by later Greater i = elim (in_cons x y keys i) [ inl q ↦ subst (λ z. In z (y ∷ insert_key key_cmp keys k)) (sym q) here | inr j ↦ there (later j) ]
+      by later Greater i =
+          elim (in_cons x y keys i) [
+            | inl q ↦ subst (λ z. In z (y ∷ insert_key key_cmp keys k))
+                (sym q) here
+            | inr j ↦ there (later j)
+          ]
 
   from_keys : (x : FileKey) (keys more : List FileKey) → In x (with_keys keys more) → In x keys ⊎ In x more
   from_keys x keys [] h = inl h
@@ -125,7 +135,8 @@ module _ (same_key : (a b : FileKey) → key_cmp a b ≡ Equal → a ≡ b) wher
   to_keys x keys (k ∷ more) (there h) = to_keys x (insert_key key_cmp keys k) more h
 
   module _ {A : Type 0} (f : A → List FileKey) where
-    pub from_all : (x : FileKey) (keys : List FileKey) (xs : List A) → In x (fold (λ ks a. with_keys ks (f a)) keys xs) → In x keys ⊎ In x (flat_map f xs)
+    pub from_all : (x : FileKey) (keys : List FileKey) (xs : List A) → In x (fold (λ ks a. with_keys ks (f a)) keys xs)
+        → In x keys ⊎ In x (flat_map f xs)
     from_all x keys [] h = inl h
     from_all x keys (a ∷ xs) h =
         elim (from_all x (with_keys keys (f a)) xs h) [
@@ -133,11 +144,13 @@ module _ (same_key : (a b : FileKey) → key_cmp a b ≡ Equal → a ≡ b) wher
           | inr i ↦ inr (in_back (f a) i)
         ]
 
-    pub all_kept : (x : FileKey) (keys : List FileKey) (xs : List A) → In x keys → In x (fold (λ ks a. with_keys ks (f a)) keys xs)
+    pub all_kept : (x : FileKey) (keys : List FileKey) (xs : List A) → In x keys
+        → In x (fold (λ ks a. with_keys ks (f a)) keys xs)
     all_kept x keys [] h = h
     all_kept x keys (a ∷ xs) h = all_kept x (with_keys keys (f a)) xs (keys_kept x keys (f a) h)
 
-    pub to_all : (x : FileKey) (keys : List FileKey) (xs : List A) → In x (flat_map f xs) → In x (fold (λ ks a. with_keys ks (f a)) keys xs)
+    pub to_all : (x : FileKey) (keys : List FileKey) (xs : List A) → In x (flat_map f xs)
+        → In x (fold (λ ks a. with_keys ks (f a)) keys xs)
     to_all x keys [] h = elim h [ ]
     to_all x keys (a ∷ xs) h =
         elim (in_either (f a) (flat_map f xs) h) [
@@ -149,29 +162,40 @@ module _ (same_key : (a b : FileKey) → key_cmp a b ≡ Equal → a ≡ b) wher
 
 module _ (laws : Below) (known : Known) (ask : Ask) where
   -- the keys that a project waits for are those it looks at and that are not known
-  waited : (c : Option Coord) (x : FileKey) → In x (keys_in (option_map (project_at known ask.repos) c)) → In x (project_keys known ask.repos (option_map (project_at known ask.repos) c)) × (known x ≡ None)
+  waited : (c : Option Coord) (x : FileKey) → In x (keys_in (option_map (project_at known ask.repos) c))
+      → In x (project_keys known ask.repos (option_map (project_at known ask.repos) c)) × (known x ≡ None)
   waited None x h = elim h [ ]
   waited (Some c) x h =
-      let o : IsOpen known ask.repos c x = (laws.needed known ask.repos c x).0 (in_contains x (needed_by (effective_of known ask.repos c)) h) in
+      let o : IsOpen known ask.repos c x =
+      (laws.needed known ask.repos c x).0 (in_contains x (needed_by (effective_of known ask.repos c)) h) in
       (contains_in x (effective_keys known ask.repos c) o.0, o.1)
 
-  to_waited : (c : Option Coord) (x : FileKey) → In x (project_keys known ask.repos (option_map (project_at known ask.repos) c)) → known x ≡ None → In x (keys_in (option_map (project_at known ask.repos) c))
+  to_waited : (c : Option Coord) (x : FileKey)
+      → In x (project_keys known ask.repos (option_map (project_at known ask.repos) c)) → known x ≡ None
+      → In x (keys_in (option_map (project_at known ask.repos) c))
   to_waited None x h e = elim h [ ]
-  to_waited (Some c) x h e = contains_in x (needed_by (effective_of known ask.repos c)) ((laws.needed known ask.repos c x).1 (in_contains x (effective_keys known ask.repos c) h, e))
+  to_waited (Some c) x h e =
+      contains_in x (needed_by (effective_of known ask.repos c))
+      ((laws.needed known ask.repos c x).1 (in_contains x (effective_keys known ask.repos c) h, e))
 
   module _ (chosen : List ChoiceRow) where
-    end_waited : (e : RowEdge) (x : FileKey) → In x (keys_in (at_end (reached_of known ask chosen) e)) → In x (end_keys known ask.repos (reached_of known ask chosen) e) × (known x ≡ None)
+    end_waited : (e : RowEdge) (x : FileKey) → In x (keys_in (at_end (reached_of known ask chosen) e))
+        → In x (end_keys known ask.repos (reached_of known ask chosen) e) × (known x ≡ None)
     end_waited e x h =
         let q = project_is known ask chosen (target_of e) in
         let r = waited (chosen_coord chosen (target_of e)) x (subst (λ z. In x (keys_in z)) q h) in
         (subst (λ z. In x (project_keys known ask.repos z)) (sym q) r.0, r.1)
 
-    to_end : (e : RowEdge) (x : FileKey) → In x (end_keys known ask.repos (reached_of known ask chosen) e) → known x ≡ None → In x (keys_in (at_end (reached_of known ask chosen) e))
+    to_end : (e : RowEdge) (x : FileKey) → In x (end_keys known ask.repos (reached_of known ask chosen) e)
+        → known x ≡ None → In x (keys_in (at_end (reached_of known ask chosen) e))
     to_end e x h n =
         let q = project_is known ask chosen (target_of e) in
-        subst (λ z. In x (keys_in z)) (sym q) (to_waited (chosen_coord chosen (target_of e)) x (subst (λ z. In x (project_keys known ask.repos z)) q h) n)
+        subst (λ z. In x (keys_in z)) (sym q)
+        (to_waited (chosen_coord chosen (target_of e)) x (subst (λ z. In x (project_keys known ask.repos z)) q h) n)
 
-    boms_waited : (boms : List Coord) (x : FileKey) → In x (flat_map (λ (p : ChosenProject). keys_in (Some p)) (projects_of known ask.repos boms)) → In x (flat_map (bom_keys known ask.repos) (projects_of known ask.repos boms)) × (known x ≡ None)
+    boms_waited : (boms : List Coord) (x : FileKey)
+        → In x (flat_map (λ (p : ChosenProject). keys_in (Some p)) (projects_of known ask.repos boms))
+        → In x (flat_map (bom_keys known ask.repos) (projects_of known ask.repos boms)) × (known x ≡ None)
     boms_waited [] x h = elim h [ ]
     boms_waited (c ∷ boms) x h =
         elim (in_either (keys_in (Some (project_at known ask.repos c))) _ h) [
@@ -179,7 +203,9 @@ module _ (laws : Below) (known : Known) (ask : Ask) where
           | inr i ↦ (let r = boms_waited boms x i in (in_back (effective_keys known ask.repos c) r.0, r.1))
         ]
 
-    to_boms : (boms : List Coord) (x : FileKey) → In x (flat_map (bom_keys known ask.repos) (projects_of known ask.repos boms)) → known x ≡ None → In x (flat_map (λ (p : ChosenProject). keys_in (Some p)) (projects_of known ask.repos boms))
+    to_boms : (boms : List Coord) (x : FileKey)
+        → In x (flat_map (bom_keys known ask.repos) (projects_of known ask.repos boms)) → known x ≡ None
+        → In x (flat_map (λ (p : ChosenProject). keys_in (Some p)) (projects_of known ask.repos boms))
     to_boms [] x h n = elim h [ ]
     to_boms (c ∷ boms) x h n =
         elim (in_either (effective_keys known ask.repos c) _ h) [
@@ -188,28 +214,41 @@ module _ (laws : Below) (known : Known) (ask : Ask) where
         ]
 
     module _ (same_key : (a b : FileKey) → key_cmp a b ≡ Equal → a ≡ b) where
-      pub open_read : (x : FileKey) → In x (open_keys (reached_of known ask chosen)) → In x (pom_reads known ask.repos (reached_of known ask chosen)) × (known x ≡ None)
+      pub open_read : (x : FileKey) → In x (open_keys (reached_of known ask chosen))
+          → In x (pom_reads known ask.repos (reached_of known ask chosen)) × (known x ≡ None)
       open_read x h =
-          elim (from_all same_key (λ (e : RowEdge). keys_in (at_end (reached_of known ask chosen) e)) x _ (last_ones known ask chosen) h) [
+          elim (from_all same_key (λ (e : RowEdge). keys_in (at_end (reached_of known ask chosen) e)) x _
+          (last_ones known ask chosen) h) [
             | inl i ↦
-                elim (from_all same_key (λ (p : ChosenProject). keys_in (Some p)) x [] (projects_of known ask.repos ask.boms) i) [
+                elim (from_all same_key (λ (p : ChosenProject). keys_in (Some p)) x []
+                (projects_of known ask.repos ask.boms) i) [
                   | inl none ↦ elim none [ ]
                   | inr b ↦ (let r = boms_waited ask.boms x b in (in_front _ r.0, r.1))
                 ]
             | inr i ↦
-                (let f : FlatMapped (λ (e : RowEdge). keys_in (at_end (reached_of known ask chosen) e)) x (last_ones known ask chosen) = from_flat_map _ x (last_ones known ask chosen) i in
-                let r = end_waited f.one x f.inside in
-                (in_back (flat_map (bom_keys known ask.repos) (projects_of known ask.repos ask.boms)) (in_flat_map (end_keys known ask.repos (reached_of known ask chosen)) f.member r.0), r.1))
+                (let f : FlatMapped (λ (e : RowEdge). keys_in (at_end (reached_of known ask chosen) e)) x
+                (last_ones known ask chosen) = from_flat_map _ x (last_ones known ask chosen) i in
+                let r = end_waited f.one x f.inside in (
+                  in_back (flat_map (bom_keys known ask.repos) (projects_of known ask.repos ask.boms))
+                      (in_flat_map (end_keys known ask.repos (reached_of known ask chosen)) f.member r.0),
+                  r.1,
+                ))
           ]
 
-      pub read_open : (x : FileKey) → In x (pom_reads known ask.repos (reached_of known ask chosen)) → known x ≡ None → In x (open_keys (reached_of known ask chosen))
+      pub read_open : (x : FileKey) → In x (pom_reads known ask.repos (reached_of known ask chosen)) → known x ≡ None
+          → In x (open_keys (reached_of known ask chosen))
       read_open x h n =
           elim (in_either (flat_map (bom_keys known ask.repos) (projects_of known ask.repos ask.boms)) _ h) [
             | inl b ↦
-                all_kept same_key (λ (e : RowEdge). keys_in (at_end (reached_of known ask chosen) e)) x _ (last_ones known ask chosen)
-                (to_all same_key (λ (p : ChosenProject). keys_in (Some p)) x [] (projects_of known ask.repos ask.boms) (to_boms ask.boms x b n))
+                all_kept same_key (λ (e : RowEdge). keys_in (at_end (reached_of known ask chosen) e)) x _
+                (last_ones known ask chosen)
+                (to_all same_key (λ (p : ChosenProject). keys_in (Some p)) x [] (projects_of known ask.repos ask.boms)
+                (to_boms ask.boms x b n))
             | inr i ↦
-                (let f : FlatMapped (end_keys known ask.repos (reached_of known ask chosen)) x (last_ones known ask chosen) = from_flat_map _ x (last_ones known ask chosen) i in
-                to_all same_key (λ (e : RowEdge). keys_in (at_end (reached_of known ask chosen) e)) x _ (last_ones known ask chosen)
-                (in_flat_map (λ (e : RowEdge). keys_in (at_end (reached_of known ask chosen) e)) f.member (to_end f.one x f.inside n)))
+                (let f : FlatMapped (end_keys known ask.repos (reached_of known ask chosen)) x
+                (last_ones known ask chosen) = from_flat_map _ x (last_ones known ask chosen) i in
+                to_all same_key (λ (e : RowEdge). keys_in (at_end (reached_of known ask chosen) e)) x _
+                (last_ones known ask chosen)
+                (in_flat_map (λ (e : RowEdge). keys_in (at_end (reached_of known ask chosen) e)) f.member
+                (to_end f.one x f.inside n)))
           ]

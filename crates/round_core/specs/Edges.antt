@@ -64,7 +64,8 @@ root_row excludes c =
 
 abbrev pub root_edges : List Exclusion → ℕ → List Coord → List RowEdge
 root_edges excludes place [] = []
-root_edges excludes place (c ∷ roots) = record { source = Root place; row = root_row excludes c } ∷ root_edges excludes (place + 1) roots
+root_edges excludes place (c ∷ roots) =
+    record { source = Root place; row = root_row excludes c } ∷ root_edges excludes (place + 1) roots
 
 abbrev pub target_of : RowEdge → Module
 target_of e = e.row.«module»
@@ -74,8 +75,10 @@ exclusions_of e = record { rules = e.row.exclusions }
 
 -- roots, and the edges of what is chosen
 abbrev pub graph : Known → Ask → List ChoiceRow → Graph Module RowEdge ExclSet
-graph known ask chosen = edge_graph target_of exclusions_of (root_edges ask.excludes 0 ask.roots) (edges known ask chosen)
+graph known ask chosen =
+    edge_graph target_of exclusions_of (root_edges ask.excludes 0 ask.roots) (edges known ask chosen)
 
--- The last edges of live paths: the roots in the order of the words, then by source module, then by the place of the row.
+-- The last edges of live paths: the roots in the order of the words, then by source module, then by the place of the
+-- row.
 abbrev pub last_ones : Known → Ask → List ChoiceRow → List RowEdge
 last_ones known ask chosen = last_edges (graph known ask chosen) (modules_of chosen)

@@ -6,6 +6,7 @@ pub mod Reaching
 pub mod Needs
 pub mod Steering
 pub mod Requests
+pub mod RequestKeys
 pub mod Listings
 pub mod Decisions
 pub mod Counts
@@ -13,4 +14,5 @@ pub mod Verdicts
 pub mod Rounds
 pub mod Turns
 pub mod Reads
+pub mod Endings
 pub mod Rows

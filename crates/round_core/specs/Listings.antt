@@ -43,7 +43,8 @@ or_later None later = later
 -- of the repositories from one on, of which so many are left
 abbrev pub offer_from : Known → Module → Interval (List ℕ) → ℕ → ℕ → Offer
 offer_from known m interval repo zero = Versions []
-offer_from known m interval repo (suc left) = or_later (offer_in interval (listing_of known m repo)) (offer_from known m interval (repo + 1) left)
+offer_from known m interval repo (suc left) =
+    or_later (offer_in interval (listing_of known m repo)) (offer_from known m interval (repo + 1) left)
 
 abbrev pub offer_of : Known → ℕ → Module → Interval (List ℕ) → Offer
 offer_of known repos m interval = offer_from known m interval 0 repos

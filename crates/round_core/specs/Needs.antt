@@ -30,7 +30,9 @@ at_end reached e = project_for reached (target_of e)
 
 -- a BOM's project, or one at an end of a live path, waits for keys
 abbrev pub is_open : Reached → Bool
-is_open reached = list_any (λ (project : ChosenProject). waits_in (Some project)) reached.boms || list_any (λ (e : RowEdge). waits_in (at_end reached e)) reached.last
+is_open reached =
+    list_any (λ (project : ChosenProject). waits_in (Some project)) reached.boms
+    || list_any (λ (e : RowEdge). waits_in (at_end reached e)) reached.last
 
 abbrev pub with_bom : List FileKey → ChosenProject → List FileKey
 with_bom keys project = with_keys keys (keys_in (Some project))

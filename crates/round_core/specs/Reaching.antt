@@ -41,7 +41,8 @@ HaveNumbers names edges = All (λ (e : RowEdge). has names (target_of e) ≡ tru
 -- the graph that the walk sees
 abbrev pub seen_graph : List Module → List Exclusion → List Coord → List (List RowEdge) → Graph Module Step ExclSet
 seen_graph names excludes roots edges =
-    step_graph (map (λ (c : Coord). record { target = c.«module»; excludes = record { rules = excludes } }) roots) (λ m. map step_of (row_at names edges m))
+    step_graph (map (λ (c : Coord). record { target = c.«module»; excludes = record { rules = excludes } }) roots)
+    (λ m. map step_of (row_at names edges m))
 
 abbrev pub flag_at : List Bool → ℕ → Bool
 flag_at flags place = unwrap_or (slice_get flags place) false
@@ -69,7 +70,8 @@ all_kept edges rows = all_kept_from rows 0 edges
 
 -- the last edges, as the walk sees the graph
 abbrev pub seen_last : List Module → List Exclusion → List Coord → List (List RowEdge) → List RowEdge
-seen_last names excludes roots edges = root_edges excludes 0 roots ++ all_kept edges (followed_by (seen_graph names excludes roots edges) names)
+seen_last names excludes roots edges =
+    root_edges excludes 0 roots ++ all_kept edges (followed_by (seen_graph names excludes roots edges) names)
 
 -- all that is reached at these choices
 abbrev pub reached_of : Known → Ask → List ChoiceRow → Reached

@@ -49,7 +49,8 @@ abbrev pub bom_keys : Known → ℕ → ChosenProject → List FileKey
 bom_keys known repos project = project_keys known repos (Some project)
 
 abbrev pub pom_reads : Known → ℕ → Reached → List FileKey
-pom_reads known repos reached = flat_map (bom_keys known repos) reached.boms ++ flat_map (end_keys known repos reached) reached.last
+pom_reads known repos reached =
+    flat_map (bom_keys known repos) reached.boms ++ flat_map (end_keys known repos reached) reached.last
 
 -- ---- of listings, up to the first repository that offers some version
 
@@ -63,7 +64,9 @@ behind_offer (Some offer) later = []
 
 abbrev pub offer_keys_from : Known → Module → Interval (List ℕ) → ℕ → ℕ → List FileKey
 offer_keys_from known m interval repo zero = []
-offer_keys_from known m interval repo (suc left) = listing_keys m repo ++ behind_offer (offer_in interval (listing_of known m repo)) (offer_keys_from known m interval (repo + 1) left)
+offer_keys_from known m interval repo (suc left) =
+    listing_keys m repo ++ behind_offer (offer_in interval (listing_of known m repo))
+    (offer_keys_from known m interval (repo + 1) left)
 
 abbrev pub offer_keys : Known → ℕ → Module → Interval (List ℕ) → List FileKey
 offer_keys known repos m interval = offer_keys_from known m interval 0 repos
@@ -84,7 +87,8 @@ listing_reads known ask (walks.Requests rows) = flat_map (decided_keys known ask
 -- ---- of a round, and of all rounds
 
 abbrev pub round_reads : Known → Ask → List ChoiceRow → List FileKey
-round_reads known ask chosen = pom_reads known ask.repos (reached_of known ask chosen) ++ listing_reads known ask (walk_of known ask chosen)
+round_reads known ask chosen =
+    pom_reads known ask.repos (reached_of known ask chosen) ++ listing_reads known ask (walk_of known ask chosen)
 
 abbrev pub unless_settled : Bool → List ChoiceRow → (List ChoiceRow → List FileKey) → List FileKey
 unless_settled true later further = []
@@ -96,7 +100,8 @@ later_reads (Next later) chosen further = unless_settled (choices_eq chosen late
 
 abbrev pub reads_from : Known → Ask → ℕ → List ChoiceRow → List FileKey
 reads_from known ask zero chosen = []
-reads_from known ask (suc left) chosen = round_reads known ask chosen ++ later_reads (round_of known ask chosen) chosen (reads_from known ask left)
+reads_from known ask (suc left) chosen =
+    round_reads known ask chosen ++ later_reads (round_of known ask chosen) chosen (reads_from known ask left)
 
 abbrev pub reads_of : Known → Ask → List FileKey
 reads_of known ask = reads_from known ask ask.rounds []

@@ -1,16 +1,20 @@
 -- What is asked of each module.
-use Rattle.std.specs.Prelude.{ℕ, Bool, true, false, ◌&&◌, ◌==◌, Option, List, [], ◌∷◌, filter, fold, map, unwrap_or}
+use Rattle.std.specs.Prelude.{ℕ, Bool, true, false, ◌&&◌, ◌==◌, Option, List, [], ◌∷◌, filter, fold, map, unwrap_or, if◌then◌else◌}
 use Rattle.std.specs.BTreeMap.{insert_entry, is_at}
 use Rattle.std.specs.Map.{lookup, remove_entry}
+use Rattle.res_base.specs.Known.{Known}
 use Rattle.res_base.specs.Names.{coord_eq, module_cmp, module_eq, text_eq}
 use Rattle.res_base.specs.declared.coord.Coord.{Coord}
 use Rattle.res_base.specs.declared.coord.Module.{Module}
 use Rattle.reconcile_rules.specs.declared.request.Asker.{Asker}
 use Rattle.reconcile_rules.specs.declared.request.Asker.TheVariants.{Root, Project}
 use Rattle.reconcile_rules.specs.declared.request.Request.{Request}
+use Rattle.resolution.specs.declared.ask.Ask.{Ask}
+use Rattle.resolution.specs.declared.choices.ChoiceRow.{ChoiceRow}
 use Rattle.resolution.specs.declared.progress.RequestRow.{RequestRow}
-use Rattle.round_core.specs.Edges.{target_of}
-use Rattle.round_core.specs.Steering.{Versions, text_of}
+use Rattle.round_core.specs.Edges.{last_ones, target_of}
+use Rattle.round_core.specs.Reaching.{reached_of}
+use Rattle.round_core.specs.Steering.{Versions, steer, text_of}
 use Rattle.round_core.specs.Tables.{once}
 use Rattle.round_core.specs.declared.edges.RowEdge.{RowEdge}
 
@@ -37,7 +41,8 @@ requests_in asked m = unwrap_or (lookup (is_at (module_cmp m)) asked) []
 
 -- one request more for a module, unless it is there
 abbrev pub with_request : Asked → Module → Request → Asked
-with_request asked m r = insert_entry module_cmp (remove_entry (is_at (module_cmp m)) asked) m (once request_eq (requests_in asked m) r)
+with_request asked m r =
+    insert_entry module_cmp (remove_entry (is_at (module_cmp m)) asked) m (once request_eq (requests_in asked m) r)
 
 abbrev pub with_edge : List Coord → Versions → Asked → RowEdge → Asked
 with_edge roots versions asked e = with_request asked (target_of e) (request_of roots versions e)
@@ -52,10 +57,25 @@ request_row asked = record { «module» = asked.0; requests = asked.1 }
 abbrev pub request_rows : List Coord → Versions → List RowEdge → List RequestRow
 request_rows roots versions last = map request_row (asked_by roots versions last)
 
--- The same, module by module: the requests for a module are the distinct pairs of text and requester of the edges that end there, in the order of the edges.
+-- The same, module by module: the requests for a module are the distinct pairs of text and requester of the edges that
+-- end there, in the order of the edges.
 
 abbrev pub asks_for : Module → RowEdge → Bool
 asks_for m e = module_eq m (target_of e)
 
 abbrev pub requests_for : List Coord → Versions → List RowEdge → Module → List Request
-requests_for roots versions last m = fold (once request_eq) [] (map (request_of roots versions) (filter (asks_for m) last))
+requests_for roots versions last m =
+    fold (once request_eq) [] (map (request_of roots versions) (filter (asks_for m) last))
+
+-- what is asked of a module at these choices
+abbrev pub requests_at : Known → Ask → List ChoiceRow → Module → List Request
+requests_at known ask chosen m =
+    requests_for ask.roots (steer ask.roots (reached_of known ask chosen)) (last_ones known ask chosen) m
+
+-- the requests of a module's row
+abbrev pub row_for : List RequestRow → Module → List Request
+row_for [] m = []
+row_for (row ∷ rows) m = if module_eq m row.«module» then row.requests else row_for rows m
+
+abbrev pub rows_modules : List RequestRow → List Module
+rows_modules rows = map (λ (row : RequestRow). row.«module») rows

@@ -46,7 +46,8 @@ walk_of known ask chosen = walk_in ask (reached_of known ask chosen)
 
 -- choices while no listing is lacking, and else the keys of all that are
 abbrev pub with_decision : Gathered → Module → Decision → Gathered
-with_decision (gathered.Rows rows) m (Made choice) = gathered.Rows (rows ++ record { «module» = m; choice = choice } ∷ [])
+with_decision (gathered.Rows rows) m (Made choice) =
+    gathered.Rows (rows ++ record { «module» = m; choice = choice } ∷ [])
 with_decision (gathered.Rows rows) m (Lacks key) = gathered.Keys (key ∷ [])
 with_decision (gathered.Keys keys) m (Made choice) = gathered.Keys keys
 with_decision (gathered.Keys keys) m (Lacks key) = gathered.Keys (insert_key key_cmp keys key)
@@ -75,23 +76,29 @@ round_of known ask chosen = round_in known ask (reached_of known ask chosen)
 -- ---- rounds
 
 -- settled where the next choices are the choices
-abbrev pub settled_or : Bool → List ChoiceRow → List ChoiceRow → (List ChoiceRow → Progress) → (List ChoiceRow → Progress) → Progress
+abbrev pub settled_or : Bool → List ChoiceRow → List ChoiceRow → (List ChoiceRow → Progress)
+    → (List ChoiceRow → Progress) → Progress
 settled_or true chosen later settled further = settled chosen
 settled_or false chosen later settled further = further later
 
-abbrev pub after_round : RoundAnswer → ℕ → List ChoiceRow → (List ChoiceRow → Progress) → (List ChoiceRow → Progress) → Progress
+abbrev pub after_round : RoundAnswer → ℕ → List ChoiceRow → (List ChoiceRow → Progress) → (List ChoiceRow → Progress)
+    → Progress
 after_round (Needs keys) done chosen settled further = Waiting done (record { rows = chosen }) keys
-after_round (Next later) done chosen settled further = settled_or (choices_eq chosen later.rows) chosen later.rows settled further
+after_round (Next later) done chosen settled further =
+    settled_or (choices_eq chosen later.rows) chosen later.rows settled further
 
 -- from these choices on, after so many rounds, where so many are left
 abbrev pub rounds_from : Known → Ask → ℕ → ℕ → List ChoiceRow → Progress
 rounds_from known ask zero done chosen = Over (Unsettled done)
-rounds_from known ask (suc left) done chosen = after_round (round_of known ask chosen) done chosen (λ settled. Over (verdict_of known ask (done + 1) settled)) (rounds_from known ask left (done + 1))
+rounds_from known ask (suc left) done chosen =
+    after_round (round_of known ask chosen) done chosen (λ settled. Over (verdict_of known ask (done + 1) settled))
+    (rounds_from known ask left (done + 1))
 
 abbrev pub rounds_of : Known → Ask → Progress
 rounds_of known ask = rounds_from known ask ask.rounds 0 []
 
--- the choices with which the last round began: of rounds from these choices on, after one that began with the choices before
+-- the choices with which the last round began: of rounds from these choices on, after one that began with the choices
+-- before
 abbrev pub unless_settled : Bool → List ChoiceRow → List ChoiceRow → (List ChoiceRow → List ChoiceRow) → List ChoiceRow
 unless_settled true chosen later further = chosen
 unless_settled false chosen later further = further later
@@ -102,7 +109,8 @@ after_last (Next later) chosen further = unless_settled (choices_eq chosen later
 
 abbrev pub last_from : Known → Ask → ℕ → List ChoiceRow → List ChoiceRow → List ChoiceRow
 last_from known ask zero before chosen = before
-last_from known ask (suc left) before chosen = after_last (round_of known ask chosen) chosen (last_from known ask left chosen)
+last_from known ask (suc left) before chosen =
+    after_last (round_of known ask chosen) chosen (last_from known ask left chosen)
 
 abbrev pub last_choices : Known → Ask → List ChoiceRow
 last_choices known ask = last_from known ask ask.rounds [] []
@@ -110,4 +118,6 @@ last_choices known ask = last_from known ask ask.rounds [] []
 -- so many rounds were done, none of which settled, and gave these choices
 pub data Did (known : Known) (ask : Ask) : ℕ → List ChoiceRow → Type 0 where
   begun : Did known ask 0 []
-  one_more : {n : ℕ} {chosen : List ChoiceRow} {later : List ChoiceRow} → Did known ask n chosen → round_of known ask chosen ≡ Next (record { rows = later }) → choices_eq chosen later ≡ false → Did known ask (suc n) later
+  one_more : {n : ℕ} {chosen : List ChoiceRow} {later : List ChoiceRow} → Did known ask n chosen
+      → round_of known ask chosen ≡ Next (record { rows = later }) → choices_eq chosen later ≡ false
+      → Did known ask (suc n) later

@@ -44,14 +44,35 @@ abbrev x1 : List ℕ → Coord
 x1 name = x name one
 
 abbrev dep : List ℕ → List ℕ → DepRecord
-dep name version = record { «module» = module_of (codes "x") name; version = version; kind = []; classifier = []; scope = []; optional = []; exclusions = [] }
+dep name version = record {
+  «module» = module_of (codes "x") name;
+  version = version;
+  kind = [];
+  classifier =
+      [];
+  scope = [];
+  optional = [];
+  exclusions = [];
+}
 
 -- one that leaves another out
 abbrev without : DepRecord → List ℕ → DepRecord
 without row name = record row { exclusions = record { org = codes "x"; name = name } ∷ [] }
 
 abbrev pom : List ℕ → List ℕ → List DepRecord → PomRecord
-pom name version deps = record { parent = None; org = codes "x"; name = name; version = version; packaging = codes "jar"; properties = []; deps = deps; managed = []; moved = None }
+pom name version deps =
+    record {
+      parent = None;
+      org = codes "x";
+      name = name;
+      version = version;
+      packaging = codes "jar";
+      properties =
+          [];
+      deps = deps;
+      managed = [];
+      moved = None;
+    }
 
 abbrev at : Coord → PomRecord → FileKey × Reading
 at c record_of = (key_of 0 roles.Pom (pom_path_of c), readings.Pom record_of)
@@ -64,10 +85,23 @@ abbrev managing : List ℕ → List DepRecord → List DepRecord → FileKey × 
 managing name managed deps = at (x1 name) (record (pom name one deps) { managed = managed })
 
 abbrev listing : List ℕ → List (List ℕ) → FileKey × Reading
-listing name versions = (key_of 0 roles.Listing (listing_path_of (module_of (codes "x") name)), readings.Listing versions)
+listing name versions =
+    (key_of 0 roles.Listing (listing_path_of (module_of (codes "x") name)), readings.Listing versions)
 
 abbrev asked : List Coord → ℕ → Ask
-asked roots rounds = record { roots = roots; forced = []; boms = []; excludes = []; configuration = configurations.Default; rule = Default; rounds = rounds; repos = 1; files = false }
+asked roots rounds =
+    record {
+      roots = roots;
+      forced = [];
+      boms = [];
+      excludes = [];
+      configuration = configurations.Default;
+      rule =
+          Default;
+      rounds = rounds;
+      repos = 1;
+      files = false;
+    }
 
 abbrev of_a : Ask
 of_a = asked (x1 (codes "a") ∷ []) 200
@@ -125,7 +159,8 @@ chain =
     ∷ project (codes "d") one []
     ∷ []
 
-pub settles_at_the_limit : settled_of (resolved chain (record of_a { rounds = 5 })) ≡ Some (5, x1 (codes "a") ∷ x1 (codes "b") ∷ x1 (codes "c") ∷ x1 (codes "d") ∷ [])
+pub settles_at_the_limit : settled_of (resolved chain (record of_a { rounds = 5 }))
+    ≡ Some (5, x1 (codes "a") ∷ x1 (codes "b") ∷ x1 (codes "c") ∷ x1 (codes "d") ∷ [])
 unfolding filled fill_in line_of managed_rows filled_deps effective_of
 settles_at_the_limit = refl
 
@@ -142,7 +177,8 @@ listed deps = resolved (
     ∷ []) of_a
 
 -- the greatest listed version in the interval, also where a lower one is asked for
-pub listed_version : settled_of (listed (dep (codes "m") (codes "0.9") ∷ [])) ≡ Some (3, x1 (codes "a") ∷ x1 (codes "b") ∷ x (codes "m") (codes "1.5") ∷ [])
+pub listed_version : settled_of (listed (dep (codes "m") (codes "0.9") ∷ []))
+    ≡ Some (3, x1 (codes "a") ∷ x1 (codes "b") ∷ x (codes "m") (codes "1.5") ∷ [])
 unfolding filled fill_in line_of managed_rows filled_deps effective_of
 listed_version = refl
 
@@ -150,19 +186,29 @@ listed_version = refl
 pub above_the_interval : listed (dep (codes "m") (codes "2.0") ∷ []) ≡ Over (Clashes (record {
   «module» = module_of (codes "x") (codes "m");
   clash = Above 1;
-  requests = record { text = codes "[1.0,2.0)"; «from» = Project (x1 (codes "a")) } ∷ record { text = codes "2.0"; «from» = Project (x1 (codes "b")) } ∷ [];
+  requests =
+      record { text = codes "[1.0,2.0)"; «from» = Project (x1 (codes "a")) } ∷ record {
+        text = codes "2.0";
+        «from» =
+            Project (x1 (codes "b"));
+      } ∷ [];
 } ∷ []))
 unfolding filled fill_in line_of managed_rows filled_deps effective_of
 above_the_interval = refl
 
 -- a listing is needed once no project is
 pub needs_a_listing : resolved (project (codes "a") one (dep (codes "m") (codes "[1,2)") ∷ []) ∷ []) of_a
-    ≡ Waiting 1 (record { rows = record { «module» = module_of (codes "x") (codes "a"); choice = Version one } ∷ [] }) (key_of 0 roles.Listing (codes "x/m/maven-metadata.xml") ∷ [])
+    ≡ Waiting 1 (record { rows = record { «module» = module_of (codes "x") (codes "a"); choice = Version one } ∷ [] })
+    (key_of 0 roles.Listing (codes "x/m/maven-metadata.xml") ∷ [])
 unfolding filled fill_in line_of managed_rows filled_deps effective_of
 needs_a_listing = refl
 
 -- the exclusions of the words do not bar the roots
-pub roots_stay : settled_of (resolved (project (codes "a") one [] ∷ []) (record of_a { excludes = record { org = codes "x"; name = codes "a" } ∷ [] })) ≡ Some (2, x1 (codes "a") ∷ [])
+pub roots_stay : settled_of
+    (resolved (project (codes "a") one [] ∷ []) (record of_a {
+      excludes =
+          record { org = codes "x"; name = codes "a" } ∷ [];
+    })) ≡ Some (2, x1 (codes "a") ∷ [])
 unfolding filled fill_in line_of managed_rows filled_deps effective_of
 roots_stay = refl
 
@@ -179,16 +225,20 @@ managed_world =
     ∷ []
 
 -- the root's managed version goes over what another project asks for
-pub managed_by_the_root : settled_of (resolved managed_world of_a) ≡ Some (4, x1 (codes "a") ∷ x1 (codes "b") ∷ x (codes "m") two ∷ [])
+pub managed_by_the_root : settled_of (resolved managed_world of_a)
+    ≡ Some (4, x1 (codes "a") ∷ x1 (codes "b") ∷ x (codes "m") two ∷ [])
 unfolding filled fill_in line_of managed_rows filled_deps effective_of
 managed_by_the_root = refl
 
 -- a BOM of the words counts before the roots
-pub managed_by_a_bom : settled_of (resolved managed_world (record of_a { boms = x1 (codes "i") ∷ [] })) ≡ Some (4, x1 (codes "a") ∷ x1 (codes "b") ∷ x1 (codes "m") ∷ [])
+pub managed_by_a_bom : settled_of (resolved managed_world (record of_a { boms = x1 (codes "i") ∷ [] }))
+    ≡ Some (4, x1 (codes "a") ∷ x1 (codes "b") ∷ x1 (codes "m") ∷ [])
 unfolding filled fill_in line_of managed_rows filled_deps effective_of
 managed_by_a_bom = refl
 
 -- what a root's module asks for by itself stays
-pub own_text_stays : settled_of (resolved managed_world (record (asked (x1 (codes "c") ∷ []) 200) { boms = x1 (codes "i") ∷ [] })) ≡ Some (3, x1 (codes "c") ∷ x (codes "m") two ∷ [])
+pub own_text_stays : settled_of
+    (resolved managed_world (record (asked (x1 (codes "c") ∷ []) 200) { boms = x1 (codes "i") ∷ [] }))
+    ≡ Some (3, x1 (codes "c") ∷ x (codes "m") two ∷ [])
 unfolding filled fill_in line_of managed_rows filled_deps effective_of
 own_text_stays = refl

@@ -26,10 +26,14 @@ abbrev pub key_of_row : DepRecord → RowKey
 key_of_row row = record { «module» = row.«module»; kind = kind_or_jar row; classifier = row.classifier }
 
 abbrev pub row_key_eq : RowKey → RowKey → Bool
-row_key_eq = eq_of_both (eq_of_both (on (λ key. key.«module») module_eq) (on (λ key. key.kind) text_eq)) (on (λ key. key.classifier) text_eq)
+row_key_eq =
+    eq_of_both (eq_of_both (on (λ key. key.«module») module_eq) (on (λ key. key.kind) text_eq))
+    (on (λ key. key.classifier) text_eq)
 
 abbrev pub row_key_cmp : RowKey → RowKey → Ordering
-row_key_cmp = then_cmp (then_cmp (on (λ key. key.«module») module_cmp) (on (λ key. key.kind) text_cmp)) (on (λ key. key.classifier) text_cmp)
+row_key_cmp =
+    then_cmp (then_cmp (on (λ key. key.«module») module_cmp) (on (λ key. key.kind) text_cmp))
+    (on (λ key. key.classifier) text_cmp)
 
 -- ---- managed versions by their keys
 
@@ -41,7 +45,9 @@ version_at versions key = lookup (is_at (row_key_cmp key)) versions
 
 -- a row counts only if no earlier row has its key
 abbrev pub with_row : Versions → DepRecord → Versions
-with_row versions row = if is_some (version_at versions (key_of_row row)) then versions else insert_entry row_key_cmp versions (key_of_row row) row.version
+with_row versions row =
+    if is_some (version_at versions (key_of_row row)) then versions else insert_entry row_key_cmp versions
+    (key_of_row row) row.version
 
 abbrev pub with_rows : Versions → List DepRecord → Versions
 with_rows versions rows = fold with_row versions rows
@@ -66,7 +72,8 @@ with_bom versions project = with_project versions (Some project)
 abbrev pub with_root : Reached → Versions → Coord → Versions
 with_root reached versions c = with_project versions (project_for reached c.«module»)
 
--- the managed versions that reach the whole graph: those of the BOMs in the order of the words, then those of the chosen projects of the roots
+-- the managed versions that reach the whole graph: those of the BOMs in the order of the words, then those of the
+-- chosen projects of the roots
 abbrev pub steer : List Coord → Reached → Versions
 steer roots reached = fold (with_root reached) (fold with_bom [] reached.boms) roots
 
@@ -90,4 +97,6 @@ keeps_text roots (Root place) own = true
 keeps_text roots (Project c) own = is_root roots c.«module» && not (is_empty_text own)
 
 abbrev pub text_of : List Coord → Versions → RowEdge → List ℕ
-text_of roots versions e = if keeps_text roots e.source e.row.version then e.row.version else steered (version_at versions (key_of_row e.row)) e.row.version
+text_of roots versions e =
+    if keeps_text roots e.source e.row.version then e.row.version else steered
+    (version_at versions (key_of_row e.row)) e.row.version

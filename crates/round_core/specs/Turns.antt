@@ -22,12 +22,18 @@ last_after (Ends progress) chosen further = chosen
 last_after (On later) chosen further = further later.rows
 
 pub record LeadsOn (chosen later : List ChoiceRow) (settled : Progress) (turn : Turn) : Type 0 where
-  pub progress : (further : List ChoiceRow → Progress) → after_turn turn further ≡ settled_or (choices_eq chosen later) chosen later (λ rows. settled) further
-  pub last : (further : List ChoiceRow → List ChoiceRow) → last_after turn chosen further ≡ unless_settled (choices_eq chosen later) chosen later further
+  pub progress : (further : List ChoiceRow → Progress)
+      → after_turn turn further ≡ settled_or (choices_eq chosen later) chosen later (λ rows. settled) further
+  pub last : (further : List ChoiceRow → List ChoiceRow) → last_after turn chosen further
+      ≡ unless_settled (choices_eq chosen later) chosen later further
 
 pub record IsTurn (known : Known) (ask : Ask) (done : ℕ) (chosen : List ChoiceRow) (turn : Turn) : Type 0 where
-  pub progress : (further : List ChoiceRow → Progress) → after_turn turn further ≡ after_round (round_of known ask chosen) done chosen (λ settled. Over (verdict_of known ask (done + 1) settled)) further
-  pub last : (further : List ChoiceRow → List ChoiceRow) → last_after turn chosen further ≡ after_last (round_of known ask chosen) chosen further
+  pub progress : (further : List ChoiceRow → Progress)
+      → after_turn turn further
+      ≡ after_round (round_of known ask chosen) done chosen
+      (λ settled. Over (verdict_of known ask (done + 1) settled)) further
+  pub last : (further : List ChoiceRow → List ChoiceRow) → last_after turn chosen further
+      ≡ after_last (round_of known ask chosen) chosen further
 
 -- the next round's choices rise
 abbrev pub TurnRises : Turn → Type 0

@@ -78,7 +78,8 @@ fault_row fault = record { coord = fault.0; fault = fault.1 }
 -- ---- nodes and edges
 
 abbrev pub node_of : Build → List Node
-node_of (builds.Built project) = record { coord = project.coord; repo = project.repo; packaging = project.packaging; moved = project.moved } ∷ []
+node_of (builds.Built project) =
+    record { coord = project.coord; repo = project.repo; packaging = project.packaging; moved = project.moved } ∷ []
 node_of (builds.Needs keys) = []
 node_of (builds.NotFound why) = []
 node_of (builds.Refused fault) = []
@@ -112,7 +113,8 @@ abbrev pub edges_in : List Coord → Versions → Reached → List Edge
 edges_in roots versions reached = map (edge_in roots versions reached) reached.last
 
 abbrev pub settled_in : List Coord → ℕ → Reached → Outcome
-settled_in roots round reached = record { round = round; nodes = nodes_in reached; edges = edges_in roots (steer roots reached) reached }
+settled_in roots round reached =
+    record { round = round; nodes = nodes_in reached; edges = edges_in roots (steer roots reached) reached }
 
 -- ---- the first of these that there is
 
@@ -127,7 +129,8 @@ unless_clashes (clash ∷ more) otherwise = Clashes (clash ∷ more)
 -- clashes, then projects that are not there, then what is settled
 abbrev pub verdict_in : List Coord → ℕ → List ChoiceRow → Reached → Verdict
 verdict_in roots round chosen reached =
-    unless_clashes (clashes_in (asked_by roots (steer roots reached) reached.last) chosen) (unless_failed (map fault_row (faults_in reached)) (settled_in roots round reached))
+    unless_clashes (clashes_in (asked_by roots (steer roots reached) reached.last) chosen)
+    (unless_failed (map fault_row (faults_in reached)) (settled_in roots round reached))
 
 abbrev pub verdict_of : Known → Ask → ℕ → List ChoiceRow → Verdict
 verdict_of known ask round chosen = verdict_in ask.roots round chosen (reached_of known ask chosen)

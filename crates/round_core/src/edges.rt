@@ -42,7 +42,8 @@ fn put_edge(
     made: &mut List<RowEdge>,
     row: &DepRecord,
 ) -> Result<(), NoMemory>
-    ensures { OnOk result (made.new ≡ made.old ++ map (edge_from coord.now) (filter (edge_test configuration coord.now) (row.now ∷ []))) }
+    ensures { OnOk result (made.new
+        ≡ made.old ++ map (edge_from coord.now) (filter (edge_test configuration coord.now) (row.now ∷ []))) }
 {
     if is_edge(configuration, coord, row) {
         return made.push(RowEdge {
@@ -59,7 +60,8 @@ fn edges_of_rows(
     coord: &Coord,
     rows: &[DepRecord],
 ) -> Result<List<RowEdge>, NoMemory>
-    ensures { IfOk result (λ made. made ≡ map (edge_from coord.now) (filter (edge_test configuration coord.now) rows.now)) }
+    ensures { IfOk result (λ made. made
+        ≡ map (edge_from coord.now) (filter (edge_test configuration coord.now) rows.now)) }
 {
     let mut made: List<RowEdge> = List::new(alloc);
     for row in rows {

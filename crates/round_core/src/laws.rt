@@ -1,16 +1,27 @@
 //! Laws of rounds, as functions with nothing to run.
 ghost use Rattle.std.specs.Prelude.{◌≡◌, ◌<◌, ℕ, List, true, None, length, Contains};
+ghost use Rattle.std.specs.List.{list_any};
 ghost use Rattle.pom_build.specs.Reads.{Agree};
 ghost use Rattle.res_base.specs.Known.{Known, Grows};
+ghost use Rattle.res_base.specs.declared.coord.Module.{Module};
 ghost use Rattle.res_base.specs.declared.key.FileKey.{FileKey};
+ghost use Rattle.resolution.specs.Settlements.{HasRepositories, IfSettled, IsSettlement};
 ghost use Rattle.resolution.specs.declared.ask.Ask.{Ask};
 ghost use Rattle.resolution.specs.declared.choices.ChoiceRow.{ChoiceRow};
 ghost use Rattle.resolution.specs.declared.choices.Choices.{Choices};
-ghost use Rattle.resolution.specs.declared.progress.Progress.TheVariants.{Waiting};
+ghost use Rattle.resolution.specs.declared.progress.Progress.{Progress};
+ghost use Rattle.resolution.specs.declared.progress.Progress.TheVariants.{Over, Waiting};
+ghost use Rattle.resolution.specs.declared.progress.RequestRow.{RequestRow};
 ghost use Rattle.resolution.specs.declared.progress.RoundAnswer.TheVariants.{Next};
+ghost use Rattle.resolution.specs.declared.progress.Walk.TheVariants.{Requests};
+ghost use Rattle.resolution.specs.declared.verdict.Verdict.{Verdict};
 ghost use Rattle.round_core.specs.Choices.{Rises, modules_of};
+ghost use Rattle.round_core.specs.Edges.{last_ones};
+ghost use Rattle.round_core.specs.Endings.{IsEnding};
 ghost use Rattle.round_core.specs.Reads.{is_over, needed_of, needs_in, reads_of};
-ghost use Rattle.round_core.specs.Rounds.{Did, round_of, rounds_of};
+ghost use Rattle.round_core.specs.Requests.{asks_for, requests_at, row_for, rows_modules};
+ghost use Rattle.round_core.specs.Rounds.{Did, round_of, rounds_of, walk_of};
+ghost use Rattle.round_core.specs.Tables.{has};
 
 use exclusion_sets::{join_laws, within_laws};
 use pom_build::{answer_laws, build_laws, read_laws};
@@ -81,4 +92,38 @@ pub fn wait_laws()
     within_laws();
     join_laws();
     equality_decided();
+}
+
+/// What a walk asks, module by module: a module has a row exactly where a live path ends there, and
+/// in it is what the last edges that end there ask for, each request once, in the order of the
+/// edges. Rows are in module order.
+pub fn request_laws()
+    ensures requests { (known : Known) (ask : Ask) (chosen : List ChoiceRow) (rows : List RequestRow) (m : Module) →
+        walk_of known ask chosen ≡ Requests rows → row_for rows m ≡ requests_at known ask chosen m }
+    ensures ends { (known : Known) (ask : Ask) (chosen : List ChoiceRow) (rows : List RequestRow) (m : Module) →
+        walk_of known ask chosen ≡ Requests rows →
+        has (rows_modules rows) m ≡ list_any (asks_for m) (last_ones known ask chosen) }
+    ensures rises { (known : Known) (ask : Ask) (chosen : List ChoiceRow) (rows : List RequestRow) →
+        walk_of known ask chosen ≡ Requests rows → Rises (rows_modules rows) }
+{}
+
+/// Rounds end in one way: a round that may be done needs keys, or gives the choices that it began
+/// with; or all rounds were done that may be. What was done before is told by `Did`.
+pub fn ending_laws()
+    ensures ends { (known : Known) (ask : Ask) → IsEnding known ask (rounds_of known ask) }
+    ensures only { (known : Known) (ask : Ask) (progress : Progress) →
+        IsEnding known ask progress → rounds_of known ask ≡ progress }
+    ensures rises { (known : Known) (ask : Ask) (done : ℕ) (chosen : List ChoiceRow) →
+        Did known ask done chosen → Rises (modules_of chosen) }
+{}
+
+/// What rounds settle on can be printed and fetched: the edges are between its nodes, and each node
+/// has a plain coordinate and was found in one of the repositories.
+pub fn settled_laws()
+    ensures settlement { (known : Known) (ask : Ask) (verdict : Verdict) →
+        rounds_of known ask ≡ Over verdict → IfSettled verdict IsSettlement }
+    ensures repositories { (known : Known) (ask : Ask) (verdict : Verdict) →
+        rounds_of known ask ≡ Over verdict → IfSettled verdict (HasRepositories ask.repos) }
+{
+    answer_laws();
 }

@@ -11,6 +11,8 @@ mod numbers;
 mod one_round;
 mod projects;
 mod reach;
+mod request_key;
+mod request_list;
 mod requests;
 mod rounds;
 mod row_key;
@@ -20,7 +22,7 @@ mod tests;
 mod verdict;
 
 pub use artifact_files::artifacts;
-pub use laws::{growth_laws, look_laws, wait_laws};
+pub use laws::{ending_laws, growth_laws, look_laws, request_laws, settled_laws, wait_laws};
 pub use one_round::{round, walk};
 pub use resolution::{
     Ask, Choice, ChoiceRow, Choices, ClashRow, Edge, FaultRow, Node, Progress, ProjectFault,

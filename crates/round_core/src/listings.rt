@@ -94,7 +94,8 @@ pub(crate) fn offer_of(
     module: &Module,
     interval: &Interval<Version>,
 ) -> Result<Offer, NoMemory>
-    ensures { IfOk result (λ made. made ≡ offer_for (known_of known.now.pairs) known.now.repos «module».now interval.now) }
+    ensures { IfOk result (λ made. made
+        ≡ offer_for (known_of known.now.pairs) known.now.repos «module».now interval.now) }
 {
     let repos = known.repos();
     for repo in 0..repos {

@@ -148,7 +148,8 @@ pub fn walk<L: Ledger>(
     requires repos { ask.now.repos ≡ known.now.repos }
     requires rises { Rises (modules_of choices.now.rows) }
     ensures value { IfOk result (λ made. made ≡ walk_of (known_of known.now.pairs) ask.now choices.now.rows) }
-    ensures steps { IfOk result (λ made. steps.old + built_count (known_of known.now.pairs) ask.now choices.now.rows ≤ steps.new) }
+    ensures steps { IfOk result
+        (λ made. steps.old + built_count (known_of known.now.pairs) ask.now choices.now.rows ≤ steps.new) }
 {
     let reached = reach_all(alloc, known, ask, choices.rows.as_slice(), steps)?;
     walk_in(alloc, ask, &reached)
@@ -166,7 +167,8 @@ pub fn round<L: Ledger>(
     requires repos { ask.now.repos ≡ known.now.repos }
     requires rises { Rises (modules_of choices.now.rows) }
     ensures value { IfOk result (λ made. made ≡ round_of (known_of known.now.pairs) ask.now choices.now.rows) }
-    ensures steps { IfOk result (λ made. steps.old + built_count (known_of known.now.pairs) ask.now choices.now.rows ≤ steps.new) }
+    ensures steps { IfOk result
+        (λ made. steps.old + built_count (known_of known.now.pairs) ask.now choices.now.rows ≤ steps.new) }
 {
     let reached = reach_all(alloc, known, ask, choices.rows.as_slice(), steps)?;
     round_in(alloc, known, ask, &reached)

@@ -38,7 +38,12 @@ fn project_at<L: Ledger>(
     version: &Text,
     steps: &mut Steps<L>,
 ) -> Result<ChosenProject, NoMemory>
-    ensures value { IfOk result (λ made. made ≡ project_at (known_of known.now.pairs) known.now.repos (record { «module» = «module».now; version = version.now })) }
+    ensures value { IfOk result (λ made. made
+        ≡ project_at (known_of known.now.pairs) known.now.repos (record {
+          «module» = «module».now;
+          version =
+              version.now;
+        })) }
     ensures steps { IfOk result (λ made. steps.new ≡ steps.old + steps_of made.build) }
 {
     let coord = Coord {

@@ -241,7 +241,8 @@ fn flags_of(
     requires distinct { AreDistinct table.now }
     requires roots { All (λ (c : RootCoord). has table.now c.«module» ≡ true) ask.now.roots }
     requires edges { All (λ list. HaveNumbers table.now list) edges.now }
-    ensures { IfOk result (λ made. made ≡ followed_by (seen_graph table.now ask.now.excludes ask.now.roots edges.now) table.now) }
+    ensures { IfOk result (λ made. made
+        ≡ followed_by (seen_graph table.now ask.now.excludes ask.now.roots edges.now) table.now) }
 {
     let roots = root_numbers(alloc, table, ask.roots.as_slice())?;
     let out = out_of(alloc, table, edges)?;
@@ -285,7 +286,8 @@ fn last_at(
 ) -> Result<List<RowEdge>, NoMemory>
     requires size { length edges ≡ length rows.now }
     requires distinct { AreDistinct (modules_of rows.now) }
-    ensures { IfOk result (λ made. made ≡ seen_last (names_for rows.now ask.now.roots edges) ask.now.excludes ask.now.roots edges) }
+    ensures { IfOk result (λ made. made
+        ≡ seen_last (names_for rows.now ask.now.roots edges) ask.now.excludes ask.now.roots edges) }
 {
     let table = names_of(alloc, rows, ask.roots.as_slice(), edges.as_slice())?;
     last_of(alloc, ask, &table, edges)

@@ -1,59 +1,22 @@
 //! What is asked of each module.
-ghost use Rattle.std.specs.Prelude.{◌≡◌, [], fold, map, IfOk, OnOk};
-ghost use Rattle.std.specs.List.{list_any};
-ghost use Rattle.round_core.specs.Requests.{asked_by, asker_eq, request_eq, request_row, requests_in as requests_of_module, with_edge as asked_with_edge, with_request as asked_with_request};
-ghost use Rattle.round_core.specs.Tables.{once};
+ghost use Rattle.std.specs.Prelude.{◌≡◌, [], map, IfOk};
+ghost use Rattle.round_core.specs.Requests.{asked_by, request_row, requests_in as requests_of_module};
+ghost use Rattle.round_core.specs.Requests.{with_edge as asked_with_edge, with_request as asked_with_request};
 
 use super::edges::RowEdge;
+use super::request_list::RequestList;
 use super::steer::{Steer, text_of};
-use reconcile_rules::{Asker, Request};
+use reconcile_rules::Request;
 use res_base::{Coord, Copied, List, Module, NoMemory};
 use resolution::RequestRow;
 use std::alloc::Global;
 use std::collections::BTreeMap;
 use std::marker::Model;
 
-fn same_asker(a: &Asker, b: &Asker) -> bool
-    ensures { result ≡ asker_eq a.now b.now }
-{
-    match a {
-        Asker::Root(i) => match b {
-            Asker::Root(j) => *i == *j,
-            Asker::Project(_) => false,
-        },
-        Asker::Project(c) => match b {
-            Asker::Root(_) => false,
-            Asker::Project(d) => *c == *d,
-        },
-    }
-}
-
-fn same_request(a: &Request, b: &Request) -> bool
-    ensures { result ≡ request_eq a.now b.now }
-{
-    a.text == b.text && same_asker(&a.from, &b.from)
-}
-
-fn is_among(request: &Request, requests: &[Request]) -> bool
-    ensures { result ≡ list_any (request_eq request.now) requests.now }
-{
-    requests.iter().any(|other| same_request(request, other))
-}
-
-/// Puts a request at the end of others, unless it is there.
-fn put_once(requests: &mut List<Request>, request: Request) -> Result<(), NoMemory>
-    ensures { OnOk result (requests.new ≡ once request_eq requests.old request) }
-{
-    if is_among(&request, requests.as_slice()) {
-        return Ok(());
-    }
-    requests.push(request)
-}
-
 /// The requests for each module, in module order. Contracts see the list of them.
 #[derive(Drop)]
 pub(crate) struct AskedTable {
-    rows: BTreeMap<Module, List<Request>>,
+    rows: BTreeMap<Module, RequestList>,
 }
 
 impl Model for AskedTable {
@@ -83,8 +46,8 @@ impl AskedTable {
         ensures { IfOk result (λ made. made ≡ asked_with_request self «module».now request) }
     {
         let AskedTable { mut rows } = self;
-        let mut requests = rows.remove(module).unwrap_or(List::new(alloc));
-        put_once(&mut requests, request)?;
+        let before = rows.remove(module).unwrap_or(RequestList::new(alloc));
+        let requests = before.with(alloc, request)?;
         rows.insert(module.copy(alloc)?, requests)?;
         Ok(AskedTable { rows })
     }
@@ -128,7 +91,7 @@ impl AskedTable {
     {
         match self.rows.get(module) {
             None => Ok(List::new(alloc)),
-            Some(requests) => requests.copy(alloc),
+            Some(requests) => requests.as_list().copy(alloc),
         }
     }
 
@@ -139,7 +102,10 @@ impl AskedTable {
         let AskedTable { rows } = self;
         let mut made: List<RequestRow> = List::new(alloc);
         for (module, requests) in rows {
-            made.push(RequestRow { module, requests })?;
+            made.push(RequestRow {
+                module,
+                requests: requests.into_list(),
+            })?;
         }
         Ok(made)
     }

@@ -95,7 +95,9 @@ fn turn_by(
     reached: &Reached,
     later: Choices,
 ) -> Result<Turn, NoMemory>
-    ensures value { IfOk result (LeadsOn choices.now.rows later.rows (Progress.Over (verdict_for ask.now.roots round choices.now.rows reached.now))) }
+    ensures value { IfOk result
+        (LeadsOn choices.now.rows later.rows
+        (Progress.Over (verdict_for ask.now.roots round choices.now.rows reached.now))) }
     ensures rises { Rises (modules_of later.rows) → IfOk result TurnRises }
 {
     let rows = choices.rows.as_slice();
@@ -121,7 +123,8 @@ fn take_turn<L: Ledger>(
     requires round { round ≡ done + 1 }
     ensures value { IfOk result (IsTurn (known_of known.now.pairs) ask.now done choices.rows) }
     ensures rises { IfOk result TurnRises }
-    ensures steps { IfOk result (λ made. steps.old + built_count (known_of known.now.pairs) ask.now choices.rows ≤ steps.new) }
+    ensures steps { IfOk result
+        (λ made. steps.old + built_count (known_of known.now.pairs) ask.now choices.rows ≤ steps.new) }
 {
     let reached = reach_all(alloc, known, ask, choices.rows.as_slice(), steps)?;
     match round_in(alloc, known, ask, &reached)? {
@@ -144,7 +147,9 @@ fn rounds_up_to<L: Ledger>(
 ) -> Result<Progress, NoMemory>
     requires repos { ask.now.repos ≡ known.now.repos }
     ensures value { IfOk result (λ made. made ≡ rounds_from (known_of known.now.pairs) ask.now most 0 []) }
-    ensures steps { IfOk result (λ made. steps.old + built_count (known_of known.now.pairs) ask.now (last_from (known_of known.now.pairs) ask.now most [] []) ≤ steps.new) }
+    ensures steps { IfOk result
+        (λ made. steps.old + built_count (known_of known.now.pairs) ask.now
+        (last_from (known_of known.now.pairs) ask.now most [] []) ≤ steps.new) }
 {
     let mut choices = Choices {
         rows: List::new(alloc),
@@ -172,7 +177,9 @@ pub fn rounds_plain<L: Ledger>(
 ) -> Result<Progress, NoMemory>
     requires repos { ask.now.repos ≡ known.now.repos }
     ensures value { IfOk result (λ made. made ≡ rounds_of (known_of known.now.pairs) ask.now) }
-    ensures steps { IfOk result (λ made. steps.old + built_count (known_of known.now.pairs) ask.now (last_choices (known_of known.now.pairs) ask.now) ≤ steps.new) }
+    ensures steps { IfOk result
+        (λ made. steps.old + built_count (known_of known.now.pairs) ask.now
+        (last_choices (known_of known.now.pairs) ask.now) ≤ steps.new) }
 {
     rounds_up_to(alloc, known, ask, ask.rounds, steps)
 }

@@ -248,7 +248,8 @@ fn unless_failed(
     reached: &Reached,
 ) -> Result<Verdict, NoMemory>
     requires { steer.now ≡ versions_of roots.now reached.now }
-    ensures { IfOk result (λ made. made ≡ unless_failing (map fault_row (faults_for reached.now)) (settled_for roots.now round reached.now)) }
+    ensures { IfOk result (λ made. made
+        ≡ unless_failing (map fault_row (faults_for reached.now)) (settled_for roots.now round reached.now)) }
 {
     let failed = FaultTable::of(alloc, reached)?.into_rows(alloc)?;
     if failed.is_empty() {

@@ -1,14 +1,14 @@
 -- Rows put into a set from the back, and lists joined.
-use Rattle.std.proofs.Common.{◌≡◌, Bool, true, false, cond, ◌||◌, List, [], ◌∷◌, ◌++◌, filter, reverse, refl, sym, true≢false, ◌∙◌, ap, append_assoc, append-nil, rules}
+use Rattle.std.proofs.Common.{◌≡◌, Bool, true, false, cond, ◌||◌, List, [], ◌∷◌, ◌++◌, filter, map, reverse, refl, sym, true≢false, ◌∙◌, ap, append_assoc, append-nil, rules}
 use Rattle.std.specs.Cmp.{IsEquivalence}
 use Rattle.std.specs.Cmp.Rules.{comparing}
-use Rattle.std.specs.List.{list_any}
-use Rattle.std.proofs.lemmas.List.{reverse-append}
+use Rattle.std.specs.List.{IsDistinct, list_any}
+use denote.Ref.{Bor}
+use Rattle.std.proofs.lemmas.List.{map-append, reverse-append}
 use Rattle.std.proofs.lemmas.List.Folds.{list_any-append}
 use Rattle.std.proofs.lemmas.List.Sums.{fold-append}
-use Rattle.indexmap.specs.IndexSet.{insert_key, insert_all}
 use Rattle.res_base.specs.declared.pom.DepRecord.{DepRecord}
-use Rattle.row_lists.specs.RowLists.{row_key_eq, has_key_of, last_of_key, overridden, joined, with_imported}
+use Rattle.row_lists.specs.RowLists.{row_key_eq, has_key_of, last_of_key, overridden, joined, with_imported, with_row}
 
 pub equal_keys : IsEquivalence row_key_eq
 equal_keys = search (comparing, rules)
@@ -18,7 +18,7 @@ list_any-same p q same [] = refl
 list_any-same p q same (x ∷ xs) = rw (same x, list_any-same p q same xs) refl
 
 -- rows with one key are among the same rows
-one_key : (a b : DepRecord) → row_key_eq a b ≡ true → (rows : List DepRecord) → has_key_of a rows ≡ has_key_of b rows
+pub one_key : (a b : DepRecord) → row_key_eq a b ≡ true → (rows : List DepRecord) → has_key_of a rows ≡ has_key_of b rows
 one_key a b e rows = list_any-same (row_key_eq a) (row_key_eq b) (λ row. equal_keys.congr a b row e) rows
 
 has_key_of-last_of_key : (row : DepRecord) (rows : List DepRecord) → has_key_of row (last_of_key rows) ≡ has_key_of row rows
@@ -76,19 +76,19 @@ list_any-reverse p (x ∷ xs) = ap (list_any p) (reverse-append (x ∷ []) xs) �
     turned false false = refl
 
 -- a set filled from the back has the last rows of each key
-pub insert_all-reverse : (rows : List DepRecord) → insert_all row_key_eq [] (reverse rows) ≡ reverse (last_of_key rows)
-insert_all-reverse [] = refl
-insert_all-reverse (row ∷ rows) =
-    ap (insert_all row_key_eq []) (reverse-append (row ∷ []) rows) ∙ fold-append (insert_key row_key_eq) [] (reverse rows) (row ∷ []) ∙ ap (λ keys. insert_key row_key_eq keys row) (insert_all-reverse rows)
+pub with_imported-reverse : (rows : List DepRecord) → with_imported [] (reverse rows) ≡ reverse (last_of_key rows)
+with_imported-reverse [] = refl
+with_imported-reverse (row ∷ rows) =
+    ap (with_imported []) (reverse-append (row ∷ []) rows) ∙ fold-append with_row [] (reverse rows) (row ∷ []) ∙ ap (λ keys. with_row keys row) (with_imported-reverse rows)
     ∙ at (has_key_of row rows) (list_any-reverse (row_key_eq row) (last_of_key rows) ∙ has_key_of-last_of_key row rows)
   where
     at : (b : Bool) → has_key_of row (reverse (last_of_key rows)) ≡ b
-        → insert_key row_key_eq (reverse (last_of_key rows)) row ≡ reverse (cond b (last_of_key rows) (row ∷ last_of_key rows))
+        → with_row (reverse (last_of_key rows)) row ≡ reverse (cond b (last_of_key rows) (row ∷ last_of_key rows))
     at true e = rw e refl
     at false e = rw e (sym (reverse-append (row ∷ []) (last_of_key rows)))
 
-pub insert_all-back_of : (lists : List (List DepRecord)) → insert_all row_key_eq [] (back_of lists) ≡ reverse (joined lists)
-insert_all-back_of lists = ap (insert_all row_key_eq []) (back_of-reverse lists) ∙ insert_all-reverse (front_of lists) ∙ ap reverse (sym (joined-front_of lists))
+pub with_imported-back_of : (lists : List (List DepRecord)) → with_imported [] (back_of lists) ≡ reverse (joined lists)
+with_imported-back_of lists = ap (with_imported []) (back_of-reverse lists) ∙ with_imported-reverse (front_of lists) ∙ ap reverse (sym (joined-front_of lists))
 
 -- no row has the key of another
 AreApart : List DepRecord → Type 0
@@ -149,3 +149,13 @@ new_rows rows (row ∷ more) apart e =
 
 pub with_imported-last : (chosen : DepRecord → Bool) (rows : List DepRecord) → with_imported [] (filter chosen (last_of_key rows)) ≡ filter chosen (last_of_key rows)
 with_imported-last chosen rows = new_rows [] (filter chosen (last_of_key rows)) (filter-apart chosen (last_of_key rows) (last_of_key-apart rows)) refl
+
+pub seen_reverse : (rows : List (Bor DepRecord)) → map (λ row. row.now) (reverse rows) ≡ reverse (map (λ row. row.now) rows)
+seen_reverse [] = refl
+seen_reverse (row ∷ rows) =
+    ap (map (λ one. one.now)) (reverse-append (row ∷ []) rows) ∙ map-append (λ (one : Bor DepRecord). one.now) (reverse rows) (row ∷ [])
+    ∙ ap (λ made. made ++ row.now ∷ []) (seen_reverse rows) ∙ sym (reverse-append (row.now ∷ []) (map (λ one. one.now) rows))
+
+pub none_alike : IsDistinct row_key_eq []
+unfolding IsDistinct
+none_alike = tt

@@ -1,74 +1,44 @@
 //! Of rows with one key the last counts.
-ghost use Rattle.std.specs.Prelude.{◌≡◌, map, reverse, IfOk, OnOk};
-ghost use Rattle.indexmap.specs.IndexSet.{insert_all};
-ghost use Rattle.row_lists.specs.RowLists.{joined as joined_rows, last_of_key as last_rows, row_key_eq};
+ghost use Rattle.std.specs.Prelude.{◌≡◌, map, reverse, IfOk};
+ghost use Rattle.row_lists.specs.RowLists.{joined as joined_rows, last_of_key as last_rows, with_imported};
 
-use super::keyed::{KeyedRow, RowRef};
-use indexmap::IndexSet;
+use super::set::RowSet;
+use super::table::RowTable;
 use res_base::{DepRecord, List, NoMemory};
 use std::alloc::Global;
-
-/// Takes the rows out of a set, the last first.
-pub(crate) fn taken_back(
-    alloc: Global,
-    set: IndexSet<KeyedRow>,
-) -> Result<List<DepRecord>, NoMemory>
-    ensures { IfOk result (λ made. made ≡ reverse set.keys) }
-{
-    let mut rest = set;
-    let mut rows: List<DepRecord> = List::new(alloc);
-    while let Some(keyed) = rest.pop() {
-        rows.push(keyed.row)?;
-    }
-    Ok(rows)
-}
 
 /// The rows without those whose key a later row has.
 pub fn last_of_key(alloc: Global, rows: List<DepRecord>) -> Result<List<DepRecord>, NoMemory>
     ensures { IfOk result (λ made. made ≡ last_rows rows) }
 {
-    let mut rest = rows;
-    let mut last: IndexSet<KeyedRow> = IndexSet::new(alloc);
-    while let Some(row) = rest.pop() {
-        last.insert(KeyedRow { row })?;
-    }
-    taken_back(alloc, last)
+    let mut from_last = rows.into_vec();
+    from_last.reverse();
+    let last = RowTable::new(alloc).with_imported(List::from_vec(from_last))?;
+    let mut made = last.into_rows().into_vec();
+    made.reverse();
+    Ok(List::from_vec(made))
 }
 
 /// Puts rows into a set, the last first.
-fn put_back<'a>(set: &mut IndexSet<RowRef<'a>>, rows: &'a [DepRecord]) -> Result<(), NoMemory>
-    ensures { OnOk result (set.new.keys ≡ insert_all row_key_eq set.old.keys (reverse rows.now)) }
+fn put_back<'a>(set: RowSet<'a>, rows: &'a [DepRecord]) -> Result<RowSet<'a>, NoMemory>
+    ensures { IfOk result (λ made. made ≡ with_imported set.entry (reverse rows.now)) }
 {
+    let mut made = set;
     for row in rows.iter().rev() {
-        set.insert(RowRef { row })?;
+        made = made.with_row(row)?;
     }
-    Ok(())
+    Ok(made)
 }
 
 /// Puts the rows of lists into a set, each list from its last row.
-fn all_put_back<'a>(
-    alloc: Global,
-    lists: &[&'a List<DepRecord>],
-) -> Result<IndexSet<RowRef<'a>>, NoMemory>
-    ensures { IfOk result (λ set. set.keys ≡ reverse (joined_rows (map (λ list. list.now) lists.now))) }
+fn all_put_back<'a>(alloc: Global, lists: &[&'a List<DepRecord>]) -> Result<RowSet<'a>, NoMemory>
+    ensures { IfOk result (λ set. set ≡ reverse (joined_rows (map (λ list. list.now) lists.now))) }
 {
-    let mut last: IndexSet<RowRef<'a>> = IndexSet::new(alloc);
+    let mut last: RowSet<'a> = RowSet::new(alloc);
     for list in lists {
-        put_back(&mut last, list.as_slice())?;
+        last = put_back(last, list.as_slice())?;
     }
     Ok(last)
-}
-
-/// The rows of a set, the last first.
-fn lent_back<'a>(alloc: Global, set: IndexSet<RowRef<'a>>) -> Result<Vec<&'a DepRecord>, NoMemory>
-    ensures { IfOk result (λ made. map (λ row. row.now) made.items ≡ reverse set.entry.keys) }
-{
-    let mut rest = set;
-    let mut rows: Vec<&'a DepRecord> = Vec::new(alloc);
-    while let Some(keyed) = rest.pop() {
-        rows.push(keyed.row)?;
-    }
-    Ok(rows)
 }
 
 /// The rows of lists of which each overrides those behind it: those of the last list come first,
@@ -79,6 +49,7 @@ pub fn joined<'a>(
 ) -> Result<Vec<&'a DepRecord>, NoMemory>
     ensures { IfOk result (λ made. map (λ row. row.now) made.items ≡ joined_rows (map (λ list. list.now) lists.now)) }
 {
-    let last = all_put_back(alloc, lists)?;
-    lent_back(alloc, last)
+    let mut made = all_put_back(alloc, lists)?.into_rows();
+    made.reverse();
+    Ok(made)
 }

@@ -5,10 +5,12 @@ mod completed;
 mod keyed;
 mod last;
 mod laws;
+mod set;
 mod table;
 #[cfg(test)]
 mod tests;
 
 pub use last::{joined, last_of_key};
 pub use laws::row_laws;
+pub use set::RowSet;
 pub use table::RowTable;

@@ -57,6 +57,13 @@ fn last_rows_and_joined_lists(rt: HostRuntime) -> Result<(), Fail> {
                 && is_row(joined.get(1).copied(), "n", "1")
         );
     }
+    {
+        let sought = row(alloc, "n", "jar", "")?;
+        let set = RowSet::new(alloc)
+            .with_rows(own.as_slice())?
+            .with_rows(parent.as_slice())?;
+        assert!(rt; is_row(set.find(&sought), "n", "1") && set.into_rows().len() == 4);
+    }
     let last = last_of_key(alloc, own)?;
     assert!(rt; last.len() == 3 && is_row(last.get(0), "n", "1") && is_row(last.get(1), "m", "2"));
     Ok(())
@@ -79,7 +86,7 @@ fn imported_and_managed_rows(rt: HostRuntime) -> Result<(), Fail> {
             && is_row(managed.get(1), "n", "")
             && is_row(managed.get(2), "k", "3")
     );
-    let all = table.into_rows(alloc)?;
+    let all = table.into_rows();
     assert!(rt; all.len() == 3 && is_row(all.get(0), "m", "1") && is_row(all.get(2), "k", "2"));
     Ok(())
 }

@@ -10,6 +10,8 @@ invariant-loop-hop l =
       size : length l.table ≡ length l.fn.table;
       work : AreWork (length l.table) l.next;
       after :
-          after_edges bare_graph is_within l.set (state_of l.modules l.table l.next) (map (hop_step l.modules) (drop l.hop-index l.hops))
-          ≡ after_edges bare_graph is_within l.set (state_of l.modules l.fn.table l.fn.next) (map (hop_step l.modules) l.hops);
+          after_edges bare_graph is_within l.set (state_of l.modules l.table l.next)
+          (map (hop_step l.modules) (drop l.hop-index l.hops))
+          ≡ after_edges bare_graph is_within l.set (state_of l.modules l.fn.table l.fn.next)
+          (map (hop_step l.modules) l.hops);
     }

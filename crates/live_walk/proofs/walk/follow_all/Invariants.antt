@@ -10,6 +10,8 @@ invariant-loop-item l =
       size : length l.table ≡ length l.fn.table;
       next : AreWork (length l.table) l.next;
       after :
-          after_items (out_graph l.modules l.out) is_within (state_of l.modules l.table l.next) (map (item_of l.modules) (drop l.item-index l.work))
-          ≡ after_items (out_graph l.modules l.out) is_within (state_of l.modules l.fn.table l.fn.next) (map (item_of l.modules) l.work);
+          after_items (out_graph l.modules l.out) is_within (state_of l.modules l.table l.next)
+          (map (item_of l.modules) (drop l.item-index l.work))
+          ≡ after_items (out_graph l.modules l.out) is_within (state_of l.modules l.fn.table l.fn.next)
+          (map (item_of l.modules) l.work);
     }

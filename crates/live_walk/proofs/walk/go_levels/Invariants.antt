@@ -10,6 +10,8 @@ invariant-loop-level l =
       size : length l.table ≡ length l.fn.table;
       work : AreWork (length l.table) l.work;
       after :
-          after_levels (out_graph l.modules l.out) is_within (length l.modules - l._level) (state_of l.modules l.table l.work)
-          ≡ after_levels (out_graph l.modules l.out) is_within (length l.modules) (state_of l.modules l.fn.table l.fn.first);
+          after_levels (out_graph l.modules l.out) is_within (length l.modules - l._level)
+          (state_of l.modules l.table l.work)
+          ≡ after_levels (out_graph l.modules l.out) is_within (length l.modules)
+          (state_of l.modules l.fn.table l.fn.first);
     }

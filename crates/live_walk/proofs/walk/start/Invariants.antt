@@ -10,6 +10,8 @@ invariant-loop-to l =
       size : length l.table ≡ length l.fn.table;
       work : AreWork (length l.table) l.next;
       after :
-          after_roots bare_graph is_within (state_of l.modules l.table l.next) (map (root_step l.modules l.excluded) (drop l.to-index l.roots))
-          ≡ after_roots bare_graph is_within (state_of l.modules l.fn.table l.fn.next) (map (root_step l.modules l.excluded) l.roots);
+          after_roots bare_graph is_within (state_of l.modules l.table l.next)
+          (map (root_step l.modules l.excluded) (drop l.to-index l.roots))
+          ≡ after_roots bare_graph is_within (state_of l.modules l.fn.table l.fn.next)
+          (map (root_step l.modules l.excluded) l.roots);
     }

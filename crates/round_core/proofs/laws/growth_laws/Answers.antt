@@ -67,7 +67,8 @@ returns-clause-reads c =
       some = c.answer_laws.ensures.some;
       listing_grows = c.listing_laws.ensures;
     } in
-    λ before after ask key more h. in_contains key (reads_of after ask) (reads_more laws before after more ask key (contains_in key (reads_of before ask) h))
+    λ before after ask key more h. in_contains key (reads_of after ask)
+    (reads_more laws before after more ask key (contains_in key (reads_of before ask) h))
 
 pub returns-clause-needed : goal.returns-clause-needed
 returns-clause-needed c =
@@ -83,4 +84,6 @@ returns-clause-needed c =
     } in
     λ before after ask key more h.
     in_contains key (reads_of after ask ++ files_of ask.files (rounds_of after ask))
-    (in_front (files_of ask.files (rounds_of after ask)) (reads_more laws before after more ask key (needs_read (same_key c.equality_decided.ensures.keys) laws before ask key (contains_in key _ h)).0))
+    (in_front (files_of ask.files (rounds_of after ask))
+    (reads_more laws before after more ask key
+    (needs_read (same_key c.equality_decided.ensures.keys) laws before ask key (contains_in key _ h)).0))

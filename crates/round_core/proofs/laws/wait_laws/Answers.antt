@@ -19,7 +19,9 @@ returns-clause-opens c =
       some = c.answer_laws.ensures.some;
       listing_grows = c.listing_laws.ensures;
     } in
-    λ known ask key h n. in_contains key (needs_in (rounds_of known ask)) (opens.reads_needed (same_key c.equality_decided.ensures.keys) laws known ask key (contains_in key (reads_of known ask) h) n)
+    λ known ask key h n. in_contains key (needs_in (rounds_of known ask))
+    (opens.reads_needed (same_key c.equality_decided.ensures.keys) laws known ask key
+    (contains_in key (reads_of known ask) h) n)
 
 pub returns-clause-unknown : goal.returns-clause-unknown
 returns-clause-unknown c =
@@ -33,7 +35,9 @@ returns-clause-unknown c =
       some = c.answer_laws.ensures.some;
       listing_grows = c.listing_laws.ensures;
     } in
-    λ known ask key h. (opens.needs_read (same_key c.equality_decided.ensures.keys) laws known ask key (contains_in key (needs_in (rounds_of known ask)) h)).1
+    λ known ask key h.
+    (opens.needs_read (same_key c.equality_decided.ensures.keys) laws known ask key
+    (contains_in key (needs_in (rounds_of known ask)) h)).1
 
 pub returns-clause-read : goal.returns-clause-read
 returns-clause-read c =
@@ -47,7 +51,9 @@ returns-clause-read c =
       some = c.answer_laws.ensures.some;
       listing_grows = c.listing_laws.ensures;
     } in
-    λ known ask key h. in_contains key (reads_of known ask) (opens.needs_read (same_key c.equality_decided.ensures.keys) laws known ask key (contains_in key (needs_in (rounds_of known ask)) h)).0
+    λ known ask key h. in_contains key (reads_of known ask)
+    (opens.needs_read (same_key c.equality_decided.ensures.keys) laws known ask key
+    (contains_in key (needs_in (rounds_of known ask)) h)).0
 
 pub returns-clause-some : goal.returns-clause-some
 returns-clause-some c =
@@ -61,7 +67,8 @@ returns-clause-some c =
       some = c.answer_laws.ensures.some;
       listing_grows = c.listing_laws.ensures;
     } in
-    λ known ask round choices needs h. opens.rounds_some (same_key c.equality_decided.ensures.keys) laws known ask round choices needs h
+    λ known ask round choices needs h. opens.rounds_some
+    (same_key c.equality_decided.ensures.keys) laws known ask round choices needs h
 
 pub returns-clause-known : goal.returns-clause-known
 returns-clause-known c =
@@ -75,7 +82,8 @@ returns-clause-known c =
       some = c.answer_laws.ensures.some;
       listing_grows = c.listing_laws.ensures;
     } in
-    λ known ask key over h n. opens.over_known (same_key c.equality_decided.ensures.keys) laws known ask key over (contains_in key (reads_of known ask) h) n
+    λ known ask key over h n. opens.over_known (same_key c.equality_decided.ensures.keys) laws known ask key over
+    (contains_in key (reads_of known ask) h) n
 
 pub returns-clause-over : goal.returns-clause-over
 returns-clause-over c =
@@ -89,4 +97,5 @@ returns-clause-over c =
       some = c.answer_laws.ensures.some;
       listing_grows = c.listing_laws.ensures;
     } in
-    λ known ask all. opens.known_over (same_key c.equality_decided.ensures.keys) laws known ask (λ key h n. all key (in_contains key (reads_of known ask) h) n)
+    λ known ask all. opens.known_over (same_key c.equality_decided.ensures.keys) laws known ask
+    (λ key h n. all key (in_contains key (reads_of known ask) h) n)

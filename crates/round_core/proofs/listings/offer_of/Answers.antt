@@ -14,6 +14,8 @@ loop-repo-preserved c =
     let below : repo < repos = c.loop-repo-test.true in
     let more : repos - repo ≡ suc (repos - (repo + 1)) = omega (arith, below) in
     let passed : offer_in c.args.interval.now (listing_of known c.args.«module».now repo) ≡ None =
-    sym (ap (offer_in c.args.interval.now) c.in_ok-listing.ensures) ∙ sym c.in_ok-offer.ensures ∙ none_left c.in_ok-offer.field-0 c.in_default.not-Some
+    sym (ap (offer_in c.args.interval.now) c.in_ok-listing.ensures) ∙ sym c.in_ok-offer.ensures
+    ∙ none_left c.in_ok-offer.field-0 c.in_default.not-Some
     in
-    sym (offer_next known c.args.«module».now c.args.interval.now repo (repos - (repo + 1)) (repos - repo) more passed) ∙ c.loop-repo.invariant
+    sym (offer_next known c.args.«module».now c.args.interval.now repo (repos - (repo + 1)) (repos - repo) more passed)
+    ∙ c.loop-repo.invariant

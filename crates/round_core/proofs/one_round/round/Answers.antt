@@ -12,13 +12,20 @@ use Rattle.round_core.proofs.Rising.{rising_distinct}
 use Rattle.round_core.proofs.one_round.round.Goals as goal
 
 pub reach_all-requires-clause-distinct : goal.reach_all-requires-clause-distinct
-reach_all-requires-clause-distinct g c = subst (λ (rows : List ChoiceRow). AreDistinct (modules_of rows)) (sym c.as_slice.ensures) (rising_distinct (modules_of c.args.choices.now.rows) c.requires.rises)
+reach_all-requires-clause-distinct g c =
+    subst (λ (rows : List ChoiceRow). AreDistinct (modules_of rows)) (sym c.as_slice.ensures)
+    (rising_distinct (modules_of c.args.choices.now.rows) c.requires.rises)
 
 pub returns-clause-steps : goal.returns-clause-steps
 returns-clause-steps g c =
     let known = known_of c.args.known.now.pairs in
     let rows : List ChoiceRow = c.args.choices.now.rows in
-    let is : c.in_ok-reached.reached.projects ≡ projects_in known c.args.ask.now.repos rows = ap (λ (z : Reached). z.projects) c.in_ok-reached.ensures.value ∙ ap (λ (rs : List ChoiceRow). projects_in known c.args.ask.now.repos rs) c.as_slice.ensures in
-    let few : built_count known c.args.ask.now rows ≤ sum_by steps_in c.in_ok-reached.reached.projects = subst (λ z. built_count known c.args.ask.now rows ≤ sum_by steps_in z) (sym is) (built_few known c.args.ask.now rows) in
-    let taken : c.args.steps.now + sum_by steps_in c.in_ok-reached.reached.projects ≤ c.reach_all.new.steps = c.in_ok-reached.ensures.steps in
+    let is : c.in_ok-reached.reached.projects ≡ projects_in known c.args.ask.now.repos rows =
+    ap (λ (z : Reached). z.projects) c.in_ok-reached.ensures.value
+    ∙ ap (λ (rs : List ChoiceRow). projects_in known c.args.ask.now.repos rs) c.as_slice.ensures in
+    let few : built_count known c.args.ask.now rows ≤ sum_by steps_in c.in_ok-reached.reached.projects =
+    subst (λ z. built_count known c.args.ask.now rows ≤ sum_by steps_in z) (sym is)
+    (built_few known c.args.ask.now rows) in
+    let taken : c.args.steps.now + sum_by steps_in c.in_ok-reached.reached.projects ≤ c.reach_all.new.steps =
+    c.in_ok-reached.ensures.steps in
     if_any c.round_in.result (λ made. omega (arith, few, taken))

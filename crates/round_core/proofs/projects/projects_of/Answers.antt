@@ -17,14 +17,17 @@ loop-coord-preserved g c =
     let place = c.loop-coord.coord-index in
     let coord : Coord = c.coord-item.result in
     let next : take (place + 1) given ≡ take place given ++ coord ∷ [] =
-    rw add-one (take-suc given place coord c.loop-coord-test.true ∙ ap (λ (one : Coord). take place given ++ one ∷ []) (sym c.coord-item.is)) in
+    rw add-one (take-suc given place coord c.loop-coord-test.true
+    ∙ ap (λ (one : Coord). take place given ++ one ∷ []) (sym c.coord-item.is)) in
     let begun : c.args.steps.now ≤ c.loop-coord.steps = c.loop-coord.invariant.steps in
-    let taken : c.project_at.new.steps ≡ c.loop-coord.steps + steps_of c.in_ok-project_at.field-0.build = c.in_ok-project_at.ensures.steps in
+    let taken : c.project_at.new.steps ≡ c.loop-coord.steps + steps_of c.in_ok-project_at.field-0.build =
+    c.in_ok-project_at.ensures.steps in
     record {
       value =
           c.in_ok-push.ensures.ok
           ∙ ap (λ (made : List ChosenProject). made ++ c.in_ok-project_at.field-0 ∷ []) c.loop-coord.invariant.value
-          ∙ ap (λ (one : ChosenProject). projects_of known repos (take place given) ++ one ∷ []) c.in_ok-project_at.ensures.value
+          ∙ ap (λ (one : ChosenProject). projects_of known repos (take place given)
+          ++ one ∷ []) c.in_ok-project_at.ensures.value
           ∙ sym (ap (projects_of known repos) next ∙ map_more (project_at known repos) (take place given) coord);
       steps = omega (arith, begun, taken);
     }

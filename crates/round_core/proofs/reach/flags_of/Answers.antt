@@ -15,12 +15,18 @@ returns c =
     let excluded : ExclSet = record { rules = c.in_ok-copy.field-0 } in
     let most = length c.names.result.now - length c.in_ok-out.out in
     if_ok c.followed.result
-    (λ (made : List (List Bool)) (is : made ≡ followed_by (hop_graph c.names-2.result.now excluded c.as_slice-2.result.now c.as_slice-3.result.now) c.names-2.result.now).
+    (λ (made : List (List Bool)) (is : made
+    ≡ followed_by
+    (hop_graph c.names-2.result.now excluded c.as_slice-2.result.now c.as_slice-3.result.now) c.names-2.result.now).
     is
-    ∙ ap (λ (z : List Module). followed_by (hop_graph z excluded c.as_slice-2.result.now c.as_slice-3.result.now) z) c.names-2.ensures
+    ∙ ap (λ (z : List Module). followed_by (hop_graph z excluded c.as_slice-2.result.now c.as_slice-3.result.now) z)
+    c.names-2.ensures
     ∙ ap (λ r. followed_by (hop_graph table excluded r c.as_slice-3.result.now) table) c.as_slice-2.ensures
-    ∙ ap (λ (o : List (List Hop)). followed_by (hop_graph table excluded c.in_ok-roots.roots o) table) (c.as_slice-3.ensures ∙ c.in_ok-out-2.ensures)
+    ∙ ap (λ (o : List (List Hop)). followed_by (hop_graph table excluded c.in_ok-roots.roots o) table)
+    (c.as_slice-3.ensures ∙ c.in_ok-out-2.ensures)
     ∙ ap (λ g. followed_by g table)
-    (graph_is table excluded c.args.ask.now.excludes c.in_ok-roots.roots c.in_ok-out.out most c.args.ask.now.roots c.args.edges.now (ap (λ (rs : List Exclusion). record { rules = rs }) c.in_ok-copy.ensures)
-    (c.in_ok-roots.ensures.names ∙ ap Rattle.round_core.specs.Reaching.roots_of c.as_slice.ensures) c.in_ok-out.ensures.steps))
+    (graph_is table excluded c.args.ask.now.excludes c.in_ok-roots.roots c.in_ok-out.out most c.args.ask.now.roots
+    c.args.edges.now (ap (λ (rs : List Exclusion). record { rules = rs }) c.in_ok-copy.ensures)
+    (c.in_ok-roots.ensures.names
+    ∙ ap Rattle.round_core.specs.Reaching.roots_of c.as_slice.ensures) c.in_ok-out.ensures.steps))
     c.followed.ensures

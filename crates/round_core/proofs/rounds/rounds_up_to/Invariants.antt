@@ -8,7 +8,9 @@ use Rattle.round_core.proofs.rounds.rounds_up_to.Given as goal
 abbrev pub invariant-loop-done : goal.invariant-loop-done
 invariant-loop-done g l =
     record {
-      value : rounds_from (known_of l.known.pairs) l.ask (l.most - l.done) l.done l.choices.rows ≡ rounds_from (known_of l.known.pairs) l.ask l.most 0 [];
+      value : rounds_from (known_of l.known.pairs) l.ask (l.most - l.done) l.done l.choices.rows
+          ≡ rounds_from (known_of l.known.pairs) l.ask l.most 0 [];
       rises : Rises (modules_of l.choices.rows);
-      steps : Taken (known_of l.known.pairs) l.ask (l.most - l.done) l.choices.rows (last_from (known_of l.known.pairs) l.ask l.most [] []) l.fn.steps l.steps;
+      steps : Taken (known_of l.known.pairs) l.ask (l.most - l.done) l.choices.rows
+          (last_from (known_of l.known.pairs) l.ask l.most [] []) l.fn.steps l.steps;
     }

@@ -13,7 +13,9 @@ returns-then-not-same_row c =
     let in_a : place < length c.args.a.now = omega arith in
     let in_b : place < length c.args.b.now = omega arith in
     let differs : row_eq x y ≡ false = sym c.same_row.ensures ∙ c.if-not-same_row.true in
-    sym (apart_at c.args.a.now c.args.b.now place x y in_a in_b (ap (λ (z : ChoiceRow). row_eq z (get_or c.args.b.now place y)) (sym c.index-a-place.is) ∙ ap (λ (z : ChoiceRow). row_eq x z) (sym c.index-b-place.is) ∙ differs))
+    sym (apart_at c.args.a.now c.args.b.now place x y in_a in_b
+    (ap (λ (z : ChoiceRow). row_eq z (get_or c.args.b.now place y)) (sym c.index-a-place.is)
+    ∙ ap (λ (z : ChoiceRow). row_eq x z) (sym c.index-b-place.is) ∙ differs))
 
 pub loop-place-preserved : goal.loop-place-preserved
 loop-place-preserved c =
@@ -25,9 +27,13 @@ loop-place-preserved c =
     let in_a : place < length c.args.a.now = omega arith in
     let in_b : place < length c.args.b.now = omega arith in
     let same : row_eq x y ≡ true = sym c.same_row.ensures ∙ c.if-not-same_row.false in
-    let of_a : drop place a ≡ x ∷ drop (place + 1) a = drop_more a place x in_a ∙ ap (λ (z : ChoiceRow). z ∷ drop (place + 1) a) (sym c.index-a-place.is) in
-    let of_b : drop place b ≡ y ∷ drop (place + 1) b = drop_more b place y in_b ∙ ap (λ (z : ChoiceRow). z ∷ drop (place + 1) b) (sym c.index-b-place.is) in
-    sym (ap (λ (z : List ChoiceRow). choices_eq z (drop place b)) of_a ∙ ap (λ (z : List ChoiceRow). choices_eq (x ∷ drop (place + 1) a) z) of_b ∙ ap (λ t. t && choices_eq (drop (place + 1) a) (drop (place + 1) b)) same)
+    let of_a : drop place a ≡ x ∷ drop (place + 1) a =
+    drop_more a place x in_a ∙ ap (λ (z : ChoiceRow). z ∷ drop (place + 1) a) (sym c.index-a-place.is) in
+    let of_b : drop place b ≡ y ∷ drop (place + 1) b =
+    drop_more b place y in_b ∙ ap (λ (z : ChoiceRow). z ∷ drop (place + 1) b) (sym c.index-b-place.is) in
+    sym (ap (λ (z : List ChoiceRow). choices_eq z (drop place b)) of_a
+    ∙ ap (λ (z : List ChoiceRow). choices_eq (x ∷ drop (place + 1) a) z) of_b
+    ∙ ap (λ t. t && choices_eq (drop (place + 1) a) (drop (place + 1) b)) same)
     ∙ c.loop-place.invariant
 
 pub returns : goal.returns

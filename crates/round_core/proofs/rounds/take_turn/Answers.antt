@@ -22,17 +22,23 @@ use Rattle.round_core.proofs.Turning.{turn_next}
 use Rattle.round_core.proofs.rounds.take_turn.Goals as goal
 
 pub reach_all-requires-clause-distinct : goal.reach_all-requires-clause-distinct
-reach_all-requires-clause-distinct g c = subst (λ (rows : List ChoiceRow). AreDistinct (modules_of rows)) (sym c.as_slice.ensures) (rising_distinct (modules_of c.args.choices.rows) c.requires.rises)
+reach_all-requires-clause-distinct g c =
+    subst (λ (rows : List ChoiceRow). AreDistinct (modules_of rows)) (sym c.as_slice.ensures)
+    (rising_distinct (modules_of c.args.choices.rows) c.requires.rises)
 
 pub returns-in-Needs-clause-steps : goal.returns-in-Needs-clause-steps
 returns-in-Needs-clause-steps g c =
     let known = known_of c.args.known.now.pairs in
     let ask = c.args.ask.now in
     let rows : List ChoiceRow = c.args.choices.rows in
-    let of_reached : c.in_ok-reached.reached ≡ reached_of known ask rows = c.in_ok-reached.ensures.value ∙ ap (λ (rs : List ChoiceRow). reached_of known ask rs) c.as_slice.ensures in
-    let is : c.in_ok-reached.reached.projects ≡ projects_in known ask.repos rows = ap (λ (z : Reached). z.projects) of_reached in
-    let few : built_count known ask rows ≤ sum_by steps_in c.in_ok-reached.reached.projects = subst (λ z. built_count known ask rows ≤ sum_by steps_in z) (sym is) (built_few known ask rows) in
-    let taken : c.args.steps.now + sum_by steps_in c.in_ok-reached.reached.projects ≤ c.reach_all.new.steps = c.in_ok-reached.ensures.steps in
+    let of_reached : c.in_ok-reached.reached ≡ reached_of known ask rows =
+    c.in_ok-reached.ensures.value ∙ ap (λ (rs : List ChoiceRow). reached_of known ask rs) c.as_slice.ensures in
+    let is : c.in_ok-reached.reached.projects ≡ projects_in known ask.repos rows =
+    ap (λ (z : Reached). z.projects) of_reached in
+    let few : built_count known ask rows ≤ sum_by steps_in c.in_ok-reached.reached.projects =
+    subst (λ z. built_count known ask rows ≤ sum_by steps_in z) (sym is) (built_few known ask rows) in
+    let taken : c.args.steps.now + sum_by steps_in c.in_ok-reached.reached.projects ≤ c.reach_all.new.steps =
+    c.in_ok-reached.ensures.steps in
     omega (arith, few, taken)
 
 pub returns-in-Next-clause-value : goal.returns-in-Next-clause-value
@@ -40,13 +46,19 @@ returns-in-Next-clause-value g c =
     let known = known_of c.args.known.now.pairs in
     let ask = c.args.ask.now in
     let rows : List ChoiceRow = c.args.choices.rows in
-    let of_reached : c.in_ok-reached.reached ≡ reached_of known ask rows = c.in_ok-reached.ensures.value ∙ ap (λ (rs : List ChoiceRow). reached_of known ask rs) c.as_slice.ensures in
-    let next : round_of known ask rows ≡ Next c.in-Next.later = sym (ap (λ (z : Reached). round_in known ask z) of_reached) ∙ sym c.in_ok-needs.ensures ∙ c.in-Next.is in
+    let of_reached : c.in_ok-reached.reached ≡ reached_of known ask rows =
+    c.in_ok-reached.ensures.value ∙ ap (λ (rs : List ChoiceRow). reached_of known ask rs) c.as_slice.ensures in
+    let next : round_of known ask rows ≡ Next c.in-Next.later =
+    sym (ap (λ (z : Reached). round_in known ask z) of_reached) ∙ sym c.in_ok-needs.ensures ∙ c.in-Next.is in
     if_ok c.turn_by.result
-    (λ (turn : Turn) (leads : LeadsOn rows c.in-Next.later.rows (Over (verdict_in ask.roots c.args.round rows c.in_ok-reached.reached)) turn).
+    (λ (turn : Turn)
+    (leads : LeadsOn rows c.in-Next.later.rows
+    (Over (verdict_in ask.roots c.args.round rows c.in_ok-reached.reached)) turn).
     turn_next known ask c.args.done rows c.in-Next.later turn next
-    (subst (λ (n : ℕ). LeadsOn rows c.in-Next.later.rows (Over (verdict_in ask.roots n rows (reached_of known ask rows))) turn) c.requires.round
-    (subst (λ (z : Reached). LeadsOn rows c.in-Next.later.rows (Over (verdict_in ask.roots c.args.round rows z)) turn) of_reached leads)))
+    (subst (λ (n : ℕ). LeadsOn rows c.in-Next.later.rows
+    (Over (verdict_in ask.roots n rows (reached_of known ask rows))) turn) c.requires.round
+    (subst (λ (z : Reached). LeadsOn rows c.in-Next.later.rows (Over (verdict_in ask.roots c.args.round rows z)) turn)
+    of_reached leads)))
     c.turn_by.ensures.value
 
 pub returns-in-Next-clause-rises : goal.returns-in-Next-clause-rises
@@ -54,8 +66,10 @@ returns-in-Next-clause-rises g c =
     let known = known_of c.args.known.now.pairs in
     let ask = c.args.ask.now in
     let rows : List ChoiceRow = c.args.choices.rows in
-    let of_reached : c.in_ok-reached.reached ≡ reached_of known ask rows = c.in_ok-reached.ensures.value ∙ ap (λ (rs : List ChoiceRow). reached_of known ask rs) c.as_slice.ensures in
-    let next : round_of known ask rows ≡ Next c.in-Next.later = sym (ap (λ (z : Reached). round_in known ask z) of_reached) ∙ sym c.in_ok-needs.ensures ∙ c.in-Next.is in
+    let of_reached : c.in_ok-reached.reached ≡ reached_of known ask rows =
+    c.in_ok-reached.ensures.value ∙ ap (λ (rs : List ChoiceRow). reached_of known ask rs) c.as_slice.ensures in
+    let next : round_of known ask rows ≡ Next c.in-Next.later =
+    sym (ap (λ (z : Reached). round_in known ask z) of_reached) ∙ sym c.in_ok-needs.ensures ∙ c.in-Next.is in
     c.turn_by.ensures.rises (round_rises known ask rows c.in-Next.later next)
 
 pub returns-in-Next-clause-steps : goal.returns-in-Next-clause-steps
@@ -63,8 +77,12 @@ returns-in-Next-clause-steps g c =
     let known = known_of c.args.known.now.pairs in
     let ask = c.args.ask.now in
     let rows : List ChoiceRow = c.args.choices.rows in
-    let of_reached : c.in_ok-reached.reached ≡ reached_of known ask rows = c.in_ok-reached.ensures.value ∙ ap (λ (rs : List ChoiceRow). reached_of known ask rs) c.as_slice.ensures in
-    let is : c.in_ok-reached.reached.projects ≡ projects_in known ask.repos rows = ap (λ (z : Reached). z.projects) of_reached in
-    let few : built_count known ask rows ≤ sum_by steps_in c.in_ok-reached.reached.projects = subst (λ z. built_count known ask rows ≤ sum_by steps_in z) (sym is) (built_few known ask rows) in
-    let taken : c.args.steps.now + sum_by steps_in c.in_ok-reached.reached.projects ≤ c.reach_all.new.steps = c.in_ok-reached.ensures.steps in
+    let of_reached : c.in_ok-reached.reached ≡ reached_of known ask rows =
+    c.in_ok-reached.ensures.value ∙ ap (λ (rs : List ChoiceRow). reached_of known ask rs) c.as_slice.ensures in
+    let is : c.in_ok-reached.reached.projects ≡ projects_in known ask.repos rows =
+    ap (λ (z : Reached). z.projects) of_reached in
+    let few : built_count known ask rows ≤ sum_by steps_in c.in_ok-reached.reached.projects =
+    subst (λ z. built_count known ask rows ≤ sum_by steps_in z) (sym is) (built_few known ask rows) in
+    let taken : c.args.steps.now + sum_by steps_in c.in_ok-reached.reached.projects ≤ c.reach_all.new.steps =
+    c.in_ok-reached.ensures.steps in
     if_any c.turn_by.result (λ (turn : Turn). omega (arith, few, taken))

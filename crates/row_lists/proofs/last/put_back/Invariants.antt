@@ -1,7 +1,6 @@
 use Rattle.std.proofs.Common.{◌≡◌, map}
-use Rattle.indexmap.specs.IndexSet.{insert_all}
-use Rattle.row_lists.specs.RowLists.{row_key_eq}
+use Rattle.row_lists.specs.RowLists.{with_imported}
 use Rattle.row_lists.proofs.last.put_back.Given as goal
 
 abbrev pub invariant-loop-row : goal.invariant-loop-row
-invariant-loop-row l = l.set.keys ≡ insert_all row_key_eq l.initial.set.keys (map (λ row. row.now) l.yielded)
+invariant-loop-row l = l.made ≡ with_imported l.fn.set (map (λ row. row.now) l.yielded)

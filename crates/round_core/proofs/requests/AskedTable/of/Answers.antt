@@ -9,7 +9,9 @@ loop-edge-preserved c =
     let place = c.loop-edge.edge-index in
     let last : List RowEdge = c.args.last.now in
     let edge : RowEdge = c.edge-item.result in
-    let step : drop place last ≡ edge ∷ drop (place + 1) last = drop_more last place edge c.loop-edge-test.true ∙ ap (λ (e : RowEdge). e ∷ drop (place + 1) last) (sym c.edge-item.is) in
-    ap (λ (made : Asked). fold (with_edge c.args.roots.now c.args.steer.now) made (drop (place + 1) last)) c.in_ok-made.ensures
+    let step : drop place last ≡ edge ∷ drop (place + 1) last = drop_more last place edge c.loop-edge-test.true
+    ∙ ap (λ (e : RowEdge). e ∷ drop (place + 1) last) (sym c.edge-item.is) in
+    ap (λ (made : Asked). fold (with_edge c.args.roots.now c.args.steer.now) made (drop (place + 1) last))
+    c.in_ok-made.ensures
     ∙ sym (ap (fold (with_edge c.args.roots.now c.args.steer.now) c.loop-edge.made) step)
     ∙ c.loop-edge.invariant

@@ -1,0 +1,5 @@
+-- Lemmas of agendas.
+pub mod Choosing
+pub mod Members
+pub mod Moving
+pub mod Queues

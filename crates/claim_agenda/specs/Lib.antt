@@ -1,0 +1,3 @@
+-- Agendas: what is to be claimed, in order, and what a claim answers from it.
+pub mod Agendas
+pub mod Answering

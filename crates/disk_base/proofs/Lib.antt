@@ -1,0 +1,4 @@
+pub mod Composed
+pub mod Order
+pub mod Replays
+pub mod Selections

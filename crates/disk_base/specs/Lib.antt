@@ -1,0 +1,14 @@
+pub mod Calls
+pub mod Crashes
+pub mod Follows
+pub mod Images
+pub mod MemoryDisks
+pub mod MemoryLaws
+pub mod MemoryMembers
+pub mod Names
+pub mod Reads
+pub mod Rows
+pub mod Runs
+pub mod Selected
+pub mod Tables
+pub mod Turns

@@ -1,0 +1,9 @@
+pub mod FieldFacts
+pub mod FullLimit
+pub mod HeadFacts
+pub mod LawFacts
+pub mod Nearer
+pub mod PartFacts
+pub mod ReaderFacts
+pub mod Runs
+pub mod SplitFacts

@@ -1,0 +1,15 @@
+pub mod BodyBytes
+pub mod BodyPlaces
+pub mod BodyStarts
+pub mod Codings
+pub mod ContentLengths
+pub mod Fields
+pub mod Heads
+pub mod LinePlaces
+pub mod Measures
+pub mod Outcomes
+pub mod Phases
+pub mod Readers
+pub mod Requests
+pub mod Rows
+pub mod Splits

@@ -1,0 +1,5 @@
+mod Pieces
+mod States
+mod Steps
+mod Forests
+mod Loops

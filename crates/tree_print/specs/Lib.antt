@@ -1,0 +1,5 @@
+pub mod Lines
+pub mod Texts
+pub mod Trees
+pub mod Stacks
+pub mod Rows
