@@ -1,0 +1,3 @@
+-- Lists of checks place by place, and who is asked.
+mod CheckPlaces
+mod Offline
