@@ -2,6 +2,7 @@
 ghost use Rattle.std.specs.Prelude.{IfOk, string_bytes};
 ghost use Rattle.case_words.specs.Words.{IsOneLine};
 
+use cache_cases::{decisions, names, records};
 use case_words::case_error::CaseError;
 use case_words::words::pieces_of;
 use project_cases::{effectives, lookups, poms, trees};
@@ -9,6 +10,7 @@ use round_cases::{artifacts, rounds};
 use std::alloc::{AllocError, Global};
 use std::str;
 use value_cases::{choices, coordinates, digests, exclusions, intervals, scopes, versions};
+use wire_cases::replies;
 
 fn answer_words(alloc: Global, words: &[&str]) -> Result<String, CaseError> {
     let [command, fields @ ..] = words else {
@@ -37,6 +39,15 @@ fn answer_words(alloc: Global, words: &[&str]) -> Result<String, CaseError> {
         "effective" => effectives::effective(alloc, fields),
         "rounds" => rounds::rounds(alloc, fields),
         "artifacts" => artifacts::artifacts(alloc, fields),
+        "cache-name" => names::cache_name(alloc, fields),
+        "record" => records::record(alloc, fields),
+        "record-line" => records::record_line(alloc, fields),
+        "gone" => records::gone(alloc, fields),
+        "gone-line" => records::gone_line(alloc, fields),
+        "decide" => decisions::decide(alloc, fields),
+        "request" => replies::request(alloc, fields),
+        "reply" => replies::reply(alloc, fields),
+        "reply-cut" => replies::reply_cut(alloc, fields),
         _ => Err(CaseError::OutOfForm),
     }
 }

@@ -1,0 +1,4 @@
+//! Commands of tables of cases over HTTP.
+#![tactic(auto)]
+
+pub mod replies;
