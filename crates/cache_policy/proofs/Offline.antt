@@ -1,12 +1,12 @@
 -- Nothing is unavailable where somebody may be asked.
 use Rattle.std.proofs.Common.{◌≡◌, ℕ, Bool, true, false, cond, not, ◌||◌, refl}
 use Rattle.cache_policy.specs.Decisions.{in_table}
-use Rattle.cache_policy.specs.declared.decide.Decision.{Decision}
-use Rattle.cache_policy.specs.declared.decide.Decision.TheVariants.{Use, Ask, Unavailable}
-use Rattle.cache_policy.specs.declared.decide.Mode.{Mode}
-use Rattle.cache_policy.specs.declared.decide.Mode.TheVariants.{Missing, Offline, Refresh}
-use Rattle.cache_policy.specs.declared.decide.Usable.{Usable}
-use Rattle.cache_policy.specs.declared.decide.Usable.TheVariants.{Data, Absence, Neither}
+use Rattle.cache_policy.specs.declared.Decision.{Decision}
+use Rattle.cache_policy.specs.declared.Decision.TheVariants.{Use, Ask, Unavailable}
+use Rattle.cache_policy.specs.declared.Mode.{Mode}
+use Rattle.cache_policy.specs.declared.Mode.TheVariants.{Missing, Offline, Refresh}
+use Rattle.cache_policy.specs.declared.decisions.Usable.{Usable}
+use Rattle.cache_policy.specs.declared.decisions.Usable.TheVariants.{Data, Absence, Neither}
 
 may_ask : {P : Type 0} (b : Bool) → cond b Use Ask ≡ Unavailable → P
 may_ask true e = cc

@@ -6,12 +6,12 @@ use Rattle.res_base.specs.declared.reading.Check.{Check}
 use Rattle.res_base.specs.declared.reading.Check.TheVariants.{Sha1, Md5, Sha256, NoCheck}
 use Rattle.cache_layout.specs.declared.record.Found.{Found}
 use Rattle.cache_layout.specs.declared.record.Found.TheVariants as found
-use Rattle.cache_policy.specs.declared.decide.Decision.{Decision}
-use Rattle.cache_policy.specs.declared.decide.Decision.TheVariants.{Use, Ask, Unavailable}
-use Rattle.cache_policy.specs.declared.decide.Mode.{Mode}
-use Rattle.cache_policy.specs.declared.decide.Mode.TheVariants.{Missing, Offline, Refresh}
-use Rattle.cache_policy.specs.declared.decide.Usable.{Usable}
-use Rattle.cache_policy.specs.declared.decide.Usable.TheVariants.{Data, Absence, Neither}
+use Rattle.cache_policy.specs.declared.Decision.{Decision}
+use Rattle.cache_policy.specs.declared.Decision.TheVariants.{Use, Ask, Unavailable}
+use Rattle.cache_policy.specs.declared.Mode.{Mode}
+use Rattle.cache_policy.specs.declared.Mode.TheVariants.{Missing, Offline, Refresh}
+use Rattle.cache_policy.specs.declared.decisions.Usable.{Usable}
+use Rattle.cache_policy.specs.declared.decisions.Usable.TheVariants.{Data, Absence, Neither}
 
 abbrev pub check_number : Check → ℕ
 check_number Sha1 = 0

@@ -5,8 +5,8 @@ use Rattle.res_base.specs.declared.reading.Check.TheVariants.{Sha1, NoCheck}
 use Rattle.cache_layout.specs.declared.record.Found.{Found}
 use Rattle.cache_layout.specs.declared.record.Found.TheVariants as found
 use Rattle.cache_policy.specs.Decisions.{decision}
-use Rattle.cache_policy.specs.declared.decide.Decision.TheVariants.{Use, Ask, Unavailable}
-use Rattle.cache_policy.specs.declared.decide.Mode.TheVariants.{Missing, Offline, Refresh}
+use Rattle.cache_policy.specs.declared.Decision.TheVariants.{Use, Ask, Unavailable}
+use Rattle.cache_policy.specs.declared.Mode.TheVariants.{Missing, Offline, Refresh}
 
 abbrev usual : List Check
 usual = Sha1 ∷ NoCheck ∷ []

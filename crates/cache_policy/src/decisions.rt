@@ -1,31 +1,10 @@
 //! The decision.
-ghost use Rattle.std.specs.Prelude.{◌≡◌, ◌-◌, nat_le};
-ghost use Rattle.cache_policy.specs.Decisions.{Usable, check_number, checks_eq, decision, in_table, is_fresh, usable};
+ghost use Rattle.std.specs.Prelude.{◌≡◌};
+ghost use Rattle.cache_policy.specs.Decisions.{check_number, checks_eq, decision, in_table, is_fresh, usable};
 
+use crate::{Decision, Mode};
 use cache_layout::Found;
 use res_base::{Check, List};
-
-/// How the cache is used.
-#[derive(Clone, Copy, Debug, PartialEq, Eq, Drop)]
-pub enum Mode {
-    /// What is missing or too old is asked for.
-    Missing,
-    /// Nothing is asked for.
-    Offline,
-    /// All is asked for anew.
-    Refresh,
-}
-
-/// What is done for a file.
-#[derive(Clone, Copy, Debug, PartialEq, Eq, Drop)]
-pub enum Decision {
-    /// What the cache has is used.
-    Use,
-    /// A repository is asked.
-    Ask,
-    /// Nothing usable is there, and nobody may be asked.
-    Unavailable,
-}
 
 /// What is usable of what was found, with the moment at which it came.
 #[derive(Clone, Copy)]
@@ -64,7 +43,7 @@ fn same_checks(checks: &[Check], others: &[Check]) -> bool
 }
 
 /// Data is usable where its record has the wanted list of checks.
-fn usable(found: &Found, checks: &[Check]) -> Usable
+fn usable_of(found: &Found, checks: &[Check]) -> Usable
     ensures { result ≡ usable checks.now found.now }
 {
     match found {
@@ -133,6 +112,6 @@ pub fn decide(
         changing,
         moment,
         ttl,
-        usable(found, checks.as_slice()),
+        usable_of(found, checks.as_slice()),
     )
 }

@@ -1,6 +1,6 @@
 use Rattle.std.proofs.Common.{◌≡◌, ◌<◌, length, refl, sym, ◌∙◌, arith}
 use Rattle.cache_policy.proofs.CheckPlaces.{other_at, other_length, same_at, same_to_end}
-use Rattle.cache_policy.proofs.decide.same_checks.Goals as goal
+use Rattle.cache_policy.proofs.decisions.same_checks.Goals as goal
 
 pub returns-then-checks-others : goal.returns-then-checks-others
 returns-then-checks-others c = sym (other_length c.args.checks.now c.args.others.now c.if-checks-others.true)
