@@ -14,8 +14,6 @@ mod replay;
 mod rows;
 mod steps;
 mod table;
-#[cfg(test)]
-mod tests;
 
 pub use contents::{Bindings, Content};
 pub use disk::{Disk, Read};
