@@ -1,6 +1,6 @@
 //! What is to be claimed over what is known: needs and hints in order.
 ghost use Rattle.std.specs.List.Sorted.{IsSorted};
-ghost use Rattle.std.specs.Prelude.{◌≡◌, ◌<◌, ◌+◌, ◌-◌, ◌++◌, IfOk, OnOk};
+ghost use Rattle.std.specs.Prelude.{◌≡◌, ◌<◌, ◌+◌, ◌-◌, ◌++◌, [], false, IfOk, OnOk};
 ghost use Rattle.claim_agenda.specs.Agendas.{IsPlan, KeepsKeys, SameKeys};
 ghost use Rattle.claim_rules.specs.Sessions.{keys_from, later_keys, with_later};
 ghost use Rattle.res_base.specs.Names.{key_cmp};
@@ -87,7 +87,13 @@ fn in_order(keys: Vec<FileKey>) -> Result<Vec<FileKey>, NoMemory>
 
 impl Agenda {
     /// Nothing is to be claimed, and nothing is over.
-    pub fn empty(alloc: Global) -> Agenda {
+    pub fn empty(alloc: Global) -> Agenda
+        ensures over { result.is_over ≡ false }
+        ensures needs { result.needs.items ≡ [] }
+        ensures hints { result.hints.items ≡ [] }
+        ensures first_need { result.next_need ≡ 0 }
+        ensures first_hint { result.next_hint ≡ 0 }
+    {
         Agenda {
             is_over: false,
             needs: Vec::new(alloc),
