@@ -4,7 +4,7 @@ ghost use Rattle.std.specs.List.{list_all};
 ghost use Rattle.fault_place.specs.Place.{IsPlace};
 ghost use Rattle.res_base.specs.Plain.{is_at_most_two_dots};
 ghost use Rattle.link_base.specs.FilePaths.{is_segment_byte};
-ghost use Rattle.cache_layout.specs.Addresses.{IsAddress, IsAfterFile, IsAfterHttp, IsAuthority, IsFilePath, IsNamed, IsPort, is_host_byte};
+ghost use Rattle.cache_layout.specs.Addresses.{IsAddress, IsAfterFile, IsAfterHttp, IsAuthority, IsFilePath, IsNamed, IsPort, is_address, is_host_byte};
 
 use crate::numbers::read_number;
 use crate::pieces::{behind, common, part};
@@ -145,7 +145,15 @@ fn read_after_file(text: &[u8]) -> Result<(), usize>
     }
 }
 
-/// Whether the text is an address.
+/// Whether the text is the address of a repository: `http://HOST`, with `:PORT` and a path if wanted,
+/// or `file:` and the path of a folder.
+pub fn is_address(text: &str) -> bool
+    ensures { result ≡ is_address text.now }
+{
+    read_address(text.as_bytes()).is_ok()
+}
+
+/// Whether the text is an address; else the place where it leaves that form.
 pub(crate) fn read_address(text: &[u8]) -> Result<(), usize>
     ensures read { OnOk result (IsAddress text.now) }
     ensures refused { IfErr result (IsPlace IsAddress text.now) }

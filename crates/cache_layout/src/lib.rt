@@ -17,6 +17,7 @@ mod record_lines;
 #[cfg(test)]
 mod tests;
 
+pub use addresses::is_address;
 pub use errors::{BadLine, NameErr, RecordErr};
 pub use gone::{gone_line, gone_lines_read, read_gone};
 pub use names::{cache_name, names_apart};

@@ -11,6 +11,7 @@ fn names(rt: HostRuntime) -> Result<(), AllocError> {
         ("file:srv/~me", "here/srv/%7Eme/x/a/1/a-1.pom"),
     ];
     for (address, wanted) in rows {
+        assert!(rt; is_address(address));
         match cache_name(rt.alloc(), address, "x/a/1/a-1.pom") {
             Ok(name) => assert_eq!(rt; name.as_str(), wanted),
             Err(_) => assert!(rt; false, "no name"),
@@ -35,6 +36,7 @@ fn names(rt: HostRuntime) -> Result<(), AllocError> {
         ("file:/a b", 7),
     ];
     for (address, place) in refused {
+        assert!(rt; !is_address(address));
         let refusal = match cache_name(rt.alloc(), address, "p") {
             Ok(_) => None,
             Err(refusal) => Some(refusal),
