@@ -5,6 +5,7 @@ pub mod Cut
 pub mod Kept
 pub mod Answered
 pub mod Modules
+pub mod Marks
 pub mod Rows
 pub mod States
 pub mod Inside

@@ -9,7 +9,7 @@ use Rattle.res_base.specs.Names.{module_eq}
 use Rattle.res_base.specs.declared.coord.Module.{Module}
 use Rattle.std.specs.List.{list_any}
 use Rattle.exclusion_sets.specs.Exclusions.{is_excluded, is_within}
-use Rattle.exclusion_sets.specs.Kept.{Kept}
+use Rattle.live_walk.specs.declared.least.LeastSets.{LeastSets}
 use Rattle.exclusion_sets.specs.Minimal.{covering_place, sets_after, unless_covered, without_covered}
 use Rattle.exclusion_sets.specs.declared.excl_set.ExclSet.{ExclSet}
 use Rattle.live_walk.specs.Graphs.{Graph}
@@ -28,32 +28,32 @@ pub length-map : {A B : Type 0} (f : A → B) (xs : List A) → length (map f xs
 length-map f [] = refl
 length-map f (x ∷ xs) = let h : length (map f xs) ≡ length xs = length-map f xs in omega (arith, h)
 
-sets_at : (table : List Kept) (place : ℕ) (d : Kept) → place < length table → get_or (sets_of table) place []
+sets_at : (table : List LeastSets) (place : ℕ) (d : LeastSets) → place < length table → get_or (sets_of table) place []
     ≡ (get_or table place d).sets
 sets_at [] place d h = absurd (omega (arith, h))
 sets_at (kept ∷ table) zero d h = refl
 sets_at (kept ∷ table) (suc place) d h = sets_at table place d (omega (arith, h))
 
-module _ (modules : List Module) (table : List Kept) (place : ℕ) (x : ExclSet) (new d : Kept) (n : length modules
+module _ (modules : List Module) (table : List LeastSets) (place : ℕ) (x : ExclSet) (new d : LeastSets) (n : length modules
     ≡ length table) (apart : AreDistinct modules) (h : place < length table) where
   abbrev old : List ExclSet
   old = (get_or table place d).sets
 
   at_module : table_of modules table (module_at modules place) ≡ (get_or table place d).sets
   at_module =
-      let many : length modules ≡ length (sets_of table) = n ∙ sym (length-map (λ (kept : Kept). kept.sets) table) in
+      let many : length modules ≡ length (sets_of table) = n ∙ sym (length-map (λ (kept : LeastSets). kept.sets) table) in
       row_here modules (sets_of table) place many apart
-      (subst (λ z. place < z) (sym (length-map (λ (kept : Kept). kept.sets) table)) h) ∙ sets_at table place d h
+      (subst (λ z. place < z) (sym (length-map (λ (kept : LeastSets). kept.sets) table)) h) ∙ sets_at table place d h
 
   after_set : table_of modules (set table place new)
       ≡ update module_eq (table_of modules table) (module_at modules place) new.sets
   after_set =
-      let many : length modules ≡ length (sets_of table) = n ∙ sym (length-map (λ (kept : Kept). kept.sets) table) in
-      ap (row_at modules) (map-set (λ (kept : Kept). kept.sets) table place new)
+      let many : length modules ≡ length (sets_of table) = n ∙ sym (length-map (λ (kept : LeastSets). kept.sets) table) in
+      ap (row_at modules) (map-set (λ (kept : LeastSets). kept.sets) table place new)
       ∙ fun_ext (row-set modules (sets_of table) place new.sets many apart
-      (subst (λ z. place < z) (sym (length-map (λ (kept : Kept). kept.sets) table)) h))
+      (subst (λ z. place < z) (sym (length-map (λ (kept : LeastSets). kept.sets) table)) h))
 
-  same_sets : (xs : List Kept) (i : ℕ) → i < length xs → new.sets ≡ (get_or xs i d).sets
+  same_sets : (xs : List LeastSets) (i : ℕ) → i < length xs → new.sets ≡ (get_or xs i d).sets
       → sets_of (set xs i new) ≡ sets_of xs
   same_sets [] i l e = absurd (omega (arith, l))
   same_sets (kept ∷ xs) zero l e = ap (λ z. z ∷ sets_of xs) e
@@ -127,7 +127,7 @@ idle g (suc n) s e =
     idle g n (level g is_within s) (ap (λ (z : State Module ExclSet). z.next) none)
     ∙ ap (λ (z : State Module ExclSet). z.table) none
 
-pub idle_at : (g : Graph Module Step ExclSet) (n : ℕ) (modules : List Module) (table : List Kept) (work : List Work)
+pub idle_at : (g : Graph Module Step ExclSet) (n : ℕ) (modules : List Module) (table : List LeastSets) (work : List Work)
     (u : State Module ExclSet) → work ≡ [] → after_levels g is_within n (state_of modules table work) ≡ u
     → table_of modules table ≡ u.table
 idle_at g n modules table work u e h = sym (idle g n (state_of modules table work) (ap (map (item_of modules)) e))
@@ -161,16 +161,16 @@ lets_of-take modules (hs ∷ out) (r ∷ sets) (suc i) hops row h l =
     (lets_of-take modules out sets i hops row (omega (arith, h)) (omega (arith, l))))
 
 -- one module more
-pub flags_more : (modules : List Module) (out : List (List Hop)) (table : List Kept) (i : ℕ) (hops : List Hop)
-    (kept : Kept) (made more : List (List Bool)) (row : List Bool) → i < length out → i < length table
+pub flags_more : (modules : List Module) (out : List (List Hop)) (table : List LeastSets) (i : ℕ) (hops : List Hop)
+    (kept : LeastSets) (made more : List (List Bool)) (row : List Bool) → i < length out → i < length table
     → hops ≡ get_or out i hops → kept ≡ get_or table i kept
     → made ≡ lets_of modules (take i out) (take i (sets_of table)) → row ≡ lets_row modules hops kept.sets
     → more ≡ made ++ row ∷ []
     → more ≡ lets_of modules (take (i + 1) out) (take (i + 1) (sets_of table))
 flags_more modules out table i hops kept made more row h l hops_at kept_at so_far is push =
-    let many : length (sets_of table) ≡ length table = length-map (λ (kept : Kept). kept.sets) table in
+    let many : length (sets_of table) ≡ length table = length-map (λ (kept : LeastSets). kept.sets) table in
     let sets_here : get_or (sets_of table) i [] ≡ kept.sets =
-    sets_at table i kept l ∙ ap (λ (z : Kept). z.sets) (sym kept_at) in
+    sets_at table i kept l ∙ ap (λ (z : LeastSets). z.sets) (sym kept_at) in
     let step : lets_of modules (take (i + 1) out) (take (i + 1) (sets_of table))
     ≡ lets_of modules (take i out) (take i (sets_of table))
     ++ lets_row modules (get_or out i hops) (get_or (sets_of table) i []) ∷ [] =

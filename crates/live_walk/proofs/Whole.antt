@@ -6,7 +6,7 @@ use Rattle.std.specs.List.{list_any}
 use Rattle.res_base.specs.Names.{module_eq}
 use Rattle.res_base.specs.declared.coord.Module.{Module}
 use Rattle.exclusion_sets.specs.Exclusions.{is_excluded, is_within}
-use Rattle.exclusion_sets.specs.Kept.{Kept}
+use Rattle.live_walk.specs.declared.least.LeastSets.{LeastSets}
 use Rattle.exclusion_sets.specs.declared.excl_set.ExclSet.{ExclSet}
 use Rattle.live_walk.specs.Graphs.{Graph, HasEdges, In}
 use Rattle.live_walk.specs.Numbers.{AreDistinct, AreHops, Step, bare_graph, followed_by, hop_graph, hop_step, inner_out, lets_of, lets_row, module_at, out_graph, out_of, root_step, row_at, sets_of, state_of, table_of}
@@ -44,7 +44,7 @@ module _ (laws : SetLaws) (modules : List Module) (excluded : ExclSet) (roots : 
         from_map (hop_step modules) e (row_at modules out k) m in row_listed modules out k hop.one hop.member;
   }
 
-  pub whole : (made : List (List Bool)) (before after : List Kept)
+  pub whole : (made : List (List Bool)) (before after : List LeastSets)
       → made ≡ lets_of modules out (sets_of after)
       → length modules ≡ length before
       → length after ≡ length before
@@ -68,7 +68,7 @@ module _ (laws : SetLaws) (modules : List Module) (excluded : ExclSet) (roots : 
       (after_roots (hop_graph modules excluded roots (inner_out out)) is_within (record { table = t; next = [] })
       (map (root_step modules excluded) roots))).table) none
       in
-      let many : length (sets_of after) ≡ length modules = length-map (λ (kept : Kept). kept.sets) after
+      let many : length (sets_of after) ≡ length modules = length-map (λ (kept : LeastSets). kept.sets) after
       ∙ (as_many ∙ sym same_many) in
       let each : map (λ m. lets_row modules (row_at modules out m) (row_at modules (sets_of after) m)) modules
       ≡ lets_of modules out (sets_of after) =

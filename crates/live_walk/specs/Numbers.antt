@@ -5,7 +5,7 @@ use Rattle.res_base.specs.Builders.{module_of}
 use Rattle.res_base.specs.Names.{module_eq}
 use Rattle.res_base.specs.declared.coord.Module.{Module}
 use Rattle.exclusion_sets.specs.Exclusions.{is_excluded, join_of}
-use Rattle.exclusion_sets.specs.Kept.{Kept}
+use Rattle.live_walk.specs.declared.least.LeastSets.{LeastSets}
 use Rattle.exclusion_sets.specs.declared.excl_set.ExclSet.{ExclSet}
 use Rattle.live_walk.specs.Graphs.{Graph}
 use Rattle.live_walk.specs.Paths.{is_followed, live_paths}
@@ -88,16 +88,16 @@ bare_graph = step_graph [] (λ m. [])
 
 -- The state of the code.
 
-abbrev pub sets_of : List Kept → List (List ExclSet)
-sets_of table = map (λ (kept : Kept). kept.sets) table
+abbrev pub sets_of : List LeastSets → List (List ExclSet)
+sets_of table = map (λ (kept : LeastSets). kept.sets) table
 
 abbrev pub item_of : List Module → Work → Item Module ExclSet
 item_of modules work = record { place = module_at modules work.place; set = work.set }
 
-abbrev pub table_of : List Module → List Kept → Module → List ExclSet
+abbrev pub table_of : List Module → List LeastSets → Module → List ExclSet
 table_of modules table = row_at modules (sets_of table)
 
-abbrev pub state_of : List Module → List Kept → List Work → State Module ExclSet
+abbrev pub state_of : List Module → List LeastSets → List Work → State Module ExclSet
 state_of modules table next = record { table = table_of modules table; next = map (item_of modules) next }
 
 -- the modules are among so many

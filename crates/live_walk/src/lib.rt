@@ -4,6 +4,9 @@
 mod hop;
 mod inner;
 mod laws;
+mod least;
+mod mark;
+mod marked;
 mod put;
 mod walk;
 

@@ -8,8 +8,10 @@ ghost use Rattle.res_base.specs.Names.{module_eq};
 
 use super::hop::Hop;
 use super::inner::inner_out;
+use super::least::LeastSets;
+use super::marked::MarkedSet;
 use super::put::put_in;
-use exclusion_sets::{Antichain, ExclSet, join_laws, within_laws};
+use exclusion_sets::{ExclSet, join_laws, within_laws};
 use res_base::{Copied, List, Module, NoMemory};
 use std::alloc::Global;
 
@@ -17,7 +19,7 @@ use std::alloc::Global;
 #[derive(Drop)]
 pub(crate) struct Work {
     pub place: usize,
-    pub set: ExclSet,
+    pub set: MarkedSet,
 }
 
 fn module_of(modules: &[Module], place: usize) -> &Module
@@ -32,10 +34,10 @@ fn module_of(modules: &[Module], place: usize) -> &Module
 fn put(
     alloc: Global,
     modules: &[Module],
-    table: &mut [Antichain],
+    table: &mut [LeastSets],
     next: &mut List<Work>,
     place: usize,
-    set: ExclSet,
+    set: MarkedSet,
 ) -> Result<(), NoMemory>
     requires size { length modules.now ≡ length table.old }
     requires distinct { AreDistinct modules.now }
@@ -47,7 +49,7 @@ fn put(
         ≡ put_set module_eq is_within (state_of modules.now table.old next.old) (module_at modules.now place) set) }
 {
     let again = set.copy(alloc)?;
-    if put_in(&mut table[place], set)? {
+    if put_in(alloc, &mut table[place], set)? {
         return next.push(Work { place, set: again });
     }
     Ok(())
@@ -57,9 +59,9 @@ fn put(
 fn follow_edge(
     alloc: Global,
     modules: &[Module],
-    table: &mut [Antichain],
+    table: &mut [LeastSets],
     next: &mut List<Work>,
-    set: &ExclSet,
+    set: &MarkedSet,
     hop: &Hop,
 ) -> Result<(), NoMemory>
     requires size { length modules.now ≡ length table.old }
@@ -89,9 +91,9 @@ fn follow_edge(
 fn follow(
     alloc: Global,
     modules: &[Module],
-    table: &mut [Antichain],
+    table: &mut [LeastSets],
     next: &mut List<Work>,
-    set: &ExclSet,
+    set: &MarkedSet,
     hops: &[Hop],
 ) -> Result<(), NoMemory>
     requires size { length modules.now ≡ length table.old }
@@ -115,7 +117,7 @@ fn follow_item(
     alloc: Global,
     modules: &[Module],
     out: &[List<Hop>],
-    table: &mut [Antichain],
+    table: &mut [LeastSets],
     next: &mut List<Work>,
     item: &Work,
 ) -> Result<(), NoMemory>
@@ -140,7 +142,7 @@ fn follow_all(
     alloc: Global,
     modules: &[Module],
     out: &[List<Hop>],
-    table: &mut [Antichain],
+    table: &mut [LeastSets],
     next: &mut List<Work>,
     work: &[Work],
 ) -> Result<(), NoMemory>
@@ -167,7 +169,7 @@ fn start(
     alloc: Global,
     modules: &[Module],
     excluded: &ExclSet,
-    table: &mut [Antichain],
+    table: &mut [LeastSets],
     next: &mut List<Work>,
     roots: &[usize],
 ) -> Result<(), NoMemory>
@@ -182,7 +184,8 @@ fn start(
         (map (root_step modules.now excluded.now) roots.now)) }
 {
     for to in roots {
-        put(alloc, modules, table, next, *to, excluded.copy(alloc)?)?;
+        let set = MarkedSet::of(excluded.copy(alloc)?);
+        put(alloc, modules, table, next, *to, set)?;
     }
     Ok(())
 }
@@ -192,7 +195,7 @@ fn go_levels(
     alloc: Global,
     modules: &[Module],
     out: &[List<Hop>],
-    table: &mut [Antichain],
+    table: &mut [LeastSets],
     first: List<Work>,
 ) -> Result<(), NoMemory>
     requires size { length modules.now ≡ length table.old }
@@ -217,12 +220,12 @@ fn go_levels(
     Ok(())
 }
 
-fn empty_table(alloc: Global, count: usize) -> Result<Vec<Antichain>, NoMemory>
+fn empty_table(alloc: Global, count: usize) -> Result<Vec<LeastSets>, NoMemory>
     ensures { IfOk result (λ made. sets_of made.items ≡ replicate count []) }
 {
-    let mut made: Vec<Antichain> = Vec::new(alloc);
+    let mut made: Vec<LeastSets> = Vec::new(alloc);
     for _row in 0..count {
-        made.push(Antichain::new(alloc))?;
+        made.push(LeastSets::new(alloc))?;
     }
     Ok(made)
 }
@@ -233,7 +236,7 @@ fn run(
     excluded: &ExclSet,
     roots: &[usize],
     out: &[List<Hop>],
-    table: &mut [Antichain],
+    table: &mut [LeastSets],
 ) -> Result<(), NoMemory>
     requires size { length modules.now ≡ length table.old }
     requires rows { length out.now ≡ length modules.now }
@@ -252,13 +255,13 @@ fn run(
 }
 
 /// Whether some set does not exclude a module.
-fn lets(sets: &[ExclSet], module: &Module) -> bool
+fn lets(sets: &[MarkedSet], module: &Module) -> bool
     ensures { result ≡ list_any (λ set. not (is_excluded set «module».now)) sets.now }
 {
     sets.iter().any(|set| !set.excludes(module))
 }
 
-fn sets_in(kept: &Antichain) -> &[ExclSet]
+fn sets_in(kept: &LeastSets) -> &[MarkedSet]
     ensures { result.now ≡ kept.now.sets }
 {
     kept.sets.as_slice()
@@ -268,7 +271,7 @@ fn sets_in(kept: &Antichain) -> &[ExclSet]
 fn flags_of(
     alloc: Global,
     modules: &[Module],
-    sets: &[ExclSet],
+    sets: &[MarkedSet],
     hops: &[Hop],
 ) -> Result<List<bool>, NoMemory>
     requires { AreHops (length modules.now) hops.now }
@@ -286,7 +289,7 @@ fn all_flags(
     alloc: Global,
     modules: &[Module],
     out: &[List<Hop>],
-    table: &[Antichain],
+    table: &[LeastSets],
 ) -> Result<List<List<bool>>, NoMemory>
     requires size { length modules.now ≡ length table.now }
     requires rows { length out.now ≡ length modules.now }
@@ -307,7 +310,7 @@ fn walk_on(
     excluded: &ExclSet,
     roots: &[usize],
     out: &[List<Hop>],
-    table: &mut [Antichain],
+    table: &mut [LeastSets],
 ) -> Result<List<List<bool>>, NoMemory>
     requires empty { sets_of table.old ≡ replicate (length modules.now) [] }
     requires size { length modules.now ≡ length table.old }
