@@ -1,5 +1,6 @@
 pub mod Below
 pub mod Decided
+pub mod Retaken
 pub mod Ends
 pub mod Named
 pub mod Offers

@@ -56,37 +56,7 @@ some_place test i (k ∷ names) h = by (some_place test (i + 1) names) (test k) 
     by later true e = refl
     by later false e = later e
 
-pub no_place : (test : Module → Bool) (i : ℕ) (names : List Module) → list_any test names ≡ false
-    → position_from test i names ≡ None
-no_place test i [] h = refl
-no_place test i (k ∷ names) h = by (no_place test (i + 1) names) (test k) h
-  where
-    by : (list_any test names ≡ false → position_from test (i + 1) names ≡ None) → (t : Bool)
-        → (t || list_any test names) ≡ false → cond t (Some i) (position_from test (i + 1) names) ≡ None
-    by later true e = absurd (cc)
-    by later false e = later e
-
--- one module more at the end
-abbrev or_place : Option ℕ → Option ℕ → Option ℕ
-or_place (Some place) later = Some place
-or_place None later = later
-
-place_at_end : (test : Module → Bool) (i : ℕ) (names : List Module) (k : Module)
-    → position_from test i (names ++ k ∷ [])
-    ≡ or_place (position_from test i names) (cond (test k) (Some (i + length names)) None)
-place_at_end test i [] k = ap (λ n. cond (test k) (Some n) None) (omega arith)
-place_at_end test i (n ∷ names) k = by (place_at_end test (i + 1) names k) (test n)
-  where
-    by : position_from test (i + 1) (names ++ k ∷ [])
-        ≡ or_place (position_from test (i + 1) names) (cond (test k) (Some (i + 1 + length names)) None)
-        → (t : Bool) → cond t (Some i) (position_from test (i + 1) (names ++ k ∷ []))
-        ≡ or_place (cond t (Some i) (position_from test (i + 1) names))
-        (cond (test k) (Some (i + suc (length names))) None)
-    by later true = refl
-    by later false =
-        later ∙ ap (λ n. or_place (position_from test (i + 1) names) (cond (test k) (Some n) None)) (omega arith)
-
--- ---- a table with one module more
+-- ---- one module and another
 
 not_other : (m k : Module) → module_eq k m ≡ false → module_eq m k ≡ false
 not_other m k h = by (module_eq m k) refl
@@ -102,31 +72,6 @@ same_either_way m k = by (module_eq k m) refl
     by : (t : Bool) → module_eq k m ≡ t → module_eq m k ≡ t
     by false e = not_other m k e
     by true e = let q : k ≡ m = module_same k m e in rw q (module_itself m)
-
--- the numbers after a module that was not there got the next one
-pub numbers_more : (names : List Module) (k : Module) → number_in names k ≡ None → (m : Module)
-    → cond (module_eq k m) (Some (length names)) (number_in names m) ≡ number_in (names ++ k ∷ []) m
-numbers_more names k free m = by (module_eq k m) refl
-  where
-    whole : number_in (names ++ k ∷ []) m
-        ≡ or_place (number_in names m) (cond (module_eq m k) (Some (0 + length names)) None)
-    whole = place_at_end (module_eq m) 0 names k
-
-    by : (t : Bool) → module_eq k m ≡ t → cond (module_eq k m) (Some (length names)) (number_in names m)
-        ≡ number_in (names ++ k ∷ []) m
-    by true e =
-        let q : k ≡ m = module_same k m e in
-        let none : number_in names m ≡ None = subst (λ z. number_in names z ≡ None) q free in
-        let there : module_eq m k ≡ true = same_either_way m k ∙ e in
-        let count : 0 + length names ≡ length names = omega arith in
-        rw e (sym (whole ∙ (rw (none, there, count) refl)))
-    by false e =
-        let there : module_eq m k ≡ false = not_other m k e in
-        rw e (sym (whole ∙ (rw there (left (number_in names m)))))
-      where
-        left : (o : Option ℕ) → or_place o None ≡ o
-        left (Some place) = refl
-        left None = refl
 
 -- ---- which modules a table has
 

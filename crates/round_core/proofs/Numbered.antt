@@ -2,7 +2,6 @@
 use Rattle.std.proofs.Common.{◌≡◌, ◌<◌, ◌≤◌, ◌+◌, ◌-◌, ℕ, zero, suc, Bool, true, false, cond, Option, None, Some, List, [], ◌∷◌, ◌++◌, length, map, refl, sym, ◌∙◌, ap, subst, arith}
 use Rattle.std.specs.Prelude.{◌||◌, fold, get_or, replicate, slice_index_or}
 use Rattle.std.specs.List.{list_any, position_from}
-use Rattle.std.specs.Option.{is_some}
 use mathlib.Core.Path.{fun_ext}
 use Rattle.exclusion_sets.specs.declared.excl_set.ExclSet.{ExclSet}
 use Rattle.live_walk.specs.Numbers.{AreDistinct, Step, hop_graph, hop_step, module_at, root_step, row_at, step_graph}
@@ -17,23 +16,10 @@ use Rattle.round_core.specs.Edges.{target_of}
 use Rattle.round_core.specs.Reaching.{names_of, roots_of, seen_graph, step_of, targets_of, with_targets}
 use Rattle.round_core.specs.Tables.{has, named, number_in, once}
 use Rattle.round_core.specs.declared.edges.RowEdge.{RowEdge}
-use Rattle.round_core.proofs.Named.{Extends, at_place, distinct_named, has_named, no_place, once_has, place_in_range, some_place}
+use Rattle.round_core.proofs.Named.{Extends, at_place, distinct_named, has_named, once_has, place_in_range, some_place}
 use Rattle.round_core.proofs.Seen.{names_extend}
 
 -- ---- one module
-
-pub is_placed : (test : Module → Bool) (i : ℕ) (names : List Module) → is_some (position_from test i names)
-    ≡ list_any test names
-is_placed test i [] = refl
-is_placed test i (k ∷ names) = by (is_placed test (i + 1) names) (test k)
-  where
-    by : is_some (position_from test (i + 1) names) ≡ list_any test names → (t : Bool)
-        → is_some (cond t (Some i) (position_from test (i + 1) names)) ≡ (t || list_any test names)
-    by later true = refl
-    by later false = later
-
-pub not_placed : (names : List Module) (m : Module) → is_some (number_in names m) ≡ false → number_in names m ≡ None
-not_placed names m h = no_place (module_eq m) 0 names (sym (is_placed (module_eq m) 0 names) ∙ h)
 
 pub record Placed (names : List Module) (m : Module) (place : ℕ) : Type 0 where
   pub at : module_at names place ≡ m

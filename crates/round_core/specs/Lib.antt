@@ -1,6 +1,7 @@
 pub mod Tables
 pub mod Choices
 pub mod Projects
+pub mod Earlier
 pub mod Edges
 pub mod Reaching
 pub mod Needs

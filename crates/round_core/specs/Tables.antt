@@ -1,8 +1,7 @@
 -- Modules that are numbered in the order in which they come.
-use Rattle.std.specs.Prelude.{◌≡◌, ℕ, Bool, Option, List, [], ◌∷◌, ◌++◌, fold, if◌then◌else◌}
+use Rattle.std.specs.Prelude.{ℕ, Bool, Option, List, [], ◌∷◌, ◌++◌, fold, if◌then◌else◌}
 use Rattle.std.specs.List.{list_any, position_from}
-use Rattle.std.specs.BTreeMap.{BTreeMap, get}
-use Rattle.res_base.specs.Names.{module_cmp, module_eq}
+use Rattle.res_base.specs.Names.{module_eq}
 use Rattle.res_base.specs.declared.coord.Module.{Module}
 
 -- the number of a module, if it has one
@@ -15,10 +14,6 @@ once same before x = if list_any (same x) before then before else before ++ x �
 
 abbrev pub named : List Module → List Module → List Module
 named names more = fold (once module_eq) names more
-
--- a map has the number of each module
-abbrev pub HasNumbers : BTreeMap Module ℕ → List Module → Type 0
-HasNumbers numbers names = (m : Module) → get module_cmp numbers m ≡ number_in names m
 
 abbrev pub has : List Module → Module → Bool
 has names m = list_any (module_eq m) names

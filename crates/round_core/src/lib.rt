@@ -2,6 +2,7 @@
 #![tactic(auto)]
 
 mod decide;
+mod earlier;
 mod edges;
 mod keys;
 mod laws;

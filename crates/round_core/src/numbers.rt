@@ -3,29 +3,25 @@ ghost use Rattle.std.specs.Prelude.{◌≡◌, [], IfOk};
 ghost use Rattle.res_base.specs.Names.{module_eq};
 ghost use Rattle.round_core.specs.Tables.{number_in, once};
 
-use res_base::{Copied, List, Module, NoMemory};
+use indexmap::IndexSet;
+use res_base::{Copied, Module, NoMemory};
 use std::alloc::Global;
-use std::collections::BTreeMap;
 use std::marker::Model;
 
 /// Modules, each once, with numbers from 0 in the order in which they came. Contracts see the list
 /// of them.
 #[derive(Drop)]
 pub(crate) struct ModuleTable {
-    names: List<Module>,
-    numbers: BTreeMap<Module, usize>,
+    names: IndexSet<Module>,
 }
 
 impl Model for ModuleTable {
     ghost use Rattle.std.specs.Prelude.{List};
     ghost use Rattle.res_base.specs.declared.coord.Module.{Module as Name};
-    ghost use Rattle.round_core.specs.Tables.{HasNumbers};
 
     ghost Value = { List Name };
 
-    ghost view = { λ table. table.names };
-
-    ghost invariant = { λ table. HasNumbers table.numbers table.names };
+    ghost view = { λ table. table.names.keys };
 }
 
 impl ModuleTable {
@@ -33,8 +29,7 @@ impl ModuleTable {
         ensures { result ≡ [] }
     {
         ModuleTable {
-            names: List::new(alloc),
-            numbers: BTreeMap::new(alloc),
+            names: IndexSet::new(alloc),
         }
     }
 
@@ -48,22 +43,18 @@ impl ModuleTable {
     pub fn number_of(&self, module: &Module) -> Option<usize>
         ensures { result ≡ number_in self.now «module».now }
     {
-        self.numbers.get(module).copied()
+        self.names.get_index_of(module)
     }
 
     /// The table with one module more, unless it has it.
     pub fn with(self, alloc: Global, module: &Module) -> Result<ModuleTable, NoMemory>
         ensures { IfOk result (λ made. made ≡ once module_eq self «module».now) }
     {
-        if self.number_of(module).is_some() {
-            return Ok(self);
+        let ModuleTable { mut names } = self;
+        if names.contains(module) {
+            return Ok(ModuleTable { names });
         }
-        let ModuleTable {
-            mut names,
-            mut numbers,
-        } = self;
-        numbers.insert(module.copy(alloc)?, names.len())?;
-        names.push(module.copy(alloc)?)?;
-        Ok(ModuleTable { names, numbers })
+        names.insert(module.copy(alloc)?)?;
+        Ok(ModuleTable { names })
     }
 }

@@ -7,6 +7,7 @@ ghost use Rattle.round_core.specs.Counts.{built_count};
 ghost use Rattle.round_core.specs.Rounds.{answer_by, next_by as next_for, round_in as round_for, round_of, walk_in as walk_for, walk_of, with_decided as gathered_with_decided, with_decision as gathered_with};
 
 use super::decide::{Decision, decided};
+use super::earlier::Earlier;
 use super::keys::KeySet;
 use super::needs::{is_open, open_keys};
 use super::reach::{Reached, reach_all};
@@ -151,7 +152,8 @@ pub fn walk<L: Ledger>(
     ensures steps { IfOk result
         (λ made. steps.old + built_count (known_of known.now.pairs) ask.now choices.now.rows ≤ steps.new) }
 {
-    let reached = reach_all(alloc, known, ask, choices.rows.as_slice(), steps)?;
+    let none = Earlier::new(alloc);
+    let reached = reach_all(alloc, known, ask, none, choices.rows.as_slice(), steps)?;
     walk_in(alloc, ask, &reached)
 }
 
@@ -170,6 +172,7 @@ pub fn round<L: Ledger>(
     ensures steps { IfOk result
         (λ made. steps.old + built_count (known_of known.now.pairs) ask.now choices.now.rows ≤ steps.new) }
 {
-    let reached = reach_all(alloc, known, ask, choices.rows.as_slice(), steps)?;
+    let none = Earlier::new(alloc);
+    let reached = reach_all(alloc, known, ask, none, choices.rows.as_slice(), steps)?;
     round_in(alloc, known, ask, &reached)
 }

@@ -2,8 +2,10 @@
 ghost use Rattle.std.specs.Prelude.{◌≡◌, ◌+◌, ◌≤◌, IfOk, sum_by};
 ghost use Rattle.res_base.specs.Known.{known_of};
 ghost use Rattle.pom_build.specs.Effectives.{steps_of};
+ghost use Rattle.round_core.specs.Earlier.{AreRight};
 ghost use Rattle.round_core.specs.Projects.{project_at, project_in as project_for, projects_in, projects_of as projects_at, steps_in};
 
+use super::earlier::{Earlier, counted};
 use pom_build::{Build, effective};
 use project_lookup::Known;
 use res_base::{Coord, Copied, List, Module, NoMemory, Steps, Text};
@@ -53,38 +55,69 @@ fn project_at<L: Ledger>(
     project_of(alloc, known, coord, steps)
 }
 
+/// The project of a version, which may have been built before.
+fn chosen_at<L: Ledger>(
+    alloc: Global,
+    known: &Known,
+    earlier: &mut Earlier,
+    module: &Module,
+    version: &Text,
+    steps: &mut Steps<L>,
+) -> Result<ChosenProject, NoMemory>
+    requires { AreRight (known_of known.now.pairs) known.now.repos earlier.old.projects.items }
+    ensures right { AreRight (known_of known.now.pairs) known.now.repos earlier.new.projects.items }
+    ensures value { IfOk result (λ made. made
+        ≡ project_at (known_of known.now.pairs) known.now.repos (record {
+          «module» = «module».now;
+          version =
+              version.now;
+        })) }
+    ensures steps { IfOk result (λ made. steps.new ≡ steps.old + steps_of made.build) }
+{
+    match earlier.taken(known, module, version) {
+        Some(project) => Ok(counted(project, steps)),
+        None => project_at(alloc, known, module, version, steps),
+    }
+}
+
 /// The project that is chosen for a module. A clash has none.
 fn project_in<L: Ledger>(
     alloc: Global,
     known: &Known,
+    earlier: &mut Earlier,
     row: &ChoiceRow,
     steps: &mut Steps<L>,
 ) -> Result<Option<ChosenProject>, NoMemory>
+    requires { AreRight (known_of known.now.pairs) known.now.repos earlier.old.projects.items }
+    ensures right { AreRight (known_of known.now.pairs) known.now.repos earlier.new.projects.items }
     ensures value { IfOk result (λ made. made ≡ project_for (known_of known.now.pairs) known.now.repos row.now) }
     ensures steps { IfOk result (λ made. steps.new ≡ steps.old + steps_in made) }
 {
     match &row.choice {
         Choice::Clash(_) => Ok(None),
         Choice::Version(version) => {
-            let project = project_at(alloc, known, &row.module, version, steps)?;
+            let project = chosen_at(alloc, known, earlier, &row.module, version, steps)?;
             Ok(Some(project))
         }
     }
 }
 
-/// The projects that are chosen, one for each row.
+/// The projects that are chosen, one for each row. Those that were built before are taken.
 pub(crate) fn chosen_projects<L: Ledger>(
     alloc: Global,
     known: &Known,
+    earlier: Earlier,
     rows: &[ChoiceRow],
     steps: &mut Steps<L>,
 ) -> Result<List<Option<ChosenProject>>, NoMemory>
+    requires { AreRight (known_of known.now.pairs) known.now.repos earlier.projects.items }
     ensures value { IfOk result (λ made. made ≡ projects_in (known_of known.now.pairs) known.now.repos rows.now) }
     ensures steps { IfOk result (λ made. steps.new ≡ steps.old + sum_by steps_in made) }
 {
+    let mut left = earlier;
     let mut made: List<Option<ChosenProject>> = List::new(alloc);
     for row in rows {
-        made.push(project_in(alloc, known, row, steps)?)?;
+        made.push(project_in(alloc, known, &mut left, row, steps)?)?;
     }
     Ok(made)
 }

@@ -6,12 +6,14 @@ ghost use Rattle.live_walk.specs.declared.hop.Hop.{Hop as HopEdge};
 ghost use Rattle.res_base.specs.Known.{known_of};
 ghost use Rattle.res_base.specs.declared.coord.Coord.{Coord as RootCoord};
 ghost use Rattle.round_core.specs.Choices.{modules_of};
+ghost use Rattle.round_core.specs.Earlier.{AreRight};
 ghost use Rattle.round_core.specs.Edges.{target_of};
 ghost use Rattle.round_core.specs.Projects.{steps_in};
 ghost use Rattle.round_core.specs.Reaching.{HaveNumbers, project_for as project_of_module, reached_of, all_kept as all_edges_kept, flag_at, flags_at, kept as edges_kept, kept_if, names_of as names_for, roots_of, seen_graph, seen_last, step_of, with_targets as names_with_targets};
 ghost use Rattle.round_core.specs.Tables.{has, named};
 ghost use Rattle.round_core.specs.declared.reach.Reached.{Reached as ReachedNow};
 
+use super::earlier::Earlier;
 use super::edges::{RowEdge, all_edges, root_edges};
 use super::numbers::ModuleTable;
 use super::projects::{ChosenProject, chosen_projects, projects_of};
@@ -308,22 +310,24 @@ impl Reached {
     }
 }
 
-/// All that is reached at these choices.
+/// All that is reached at these choices. Projects that were built before are taken.
 pub(crate) fn reach_all<L: Ledger>(
     alloc: Global,
     known: &Known,
     ask: &Ask,
+    earlier: Earlier,
     rows: &[ChoiceRow],
     steps: &mut Steps<L>,
 ) -> Result<Reached, NoMemory>
     requires repos { ask.now.repos ≡ known.now.repos }
+    requires right { AreRight (known_of known.now.pairs) known.now.repos earlier.projects.items }
     requires distinct { AreDistinct (modules_of rows.now) }
     ensures value { IfOk result (λ made. made ≡ reached_of (known_of known.now.pairs) ask.now rows.now) }
     ensures steps { IfOk result (λ (made : ReachedNow). steps.old + sum_by steps_in made.projects ≤ steps.new) }
 {
     within_laws();
     join_laws();
-    let projects = chosen_projects(alloc, known, rows, steps)?;
+    let projects = chosen_projects(alloc, known, earlier, rows, steps)?;
     let boms = projects_of(alloc, known, ask.boms.as_slice(), steps)?;
     let edges = all_edges(alloc, ask.configuration, projects.as_slice())?;
     let last = last_at(alloc, ask, rows, edges)?;

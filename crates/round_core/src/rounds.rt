@@ -1,12 +1,15 @@
 //! Rounds, from nothing.
-ghost use Rattle.std.specs.Prelude.{◌≡◌, ◌≤◌, ◌+◌, [], IfOk};
+ghost use Rattle.std.specs.Prelude.{◌≡◌, ◌≤◌, ◌+◌, [], IfOk, OnOk};
 ghost use Rattle.res_base.specs.Known.{known_of};
 ghost use Rattle.round_core.specs.Choices.{Rises, choice_eq, choices_eq, clash_eq, modules_of, row_eq};
 ghost use Rattle.round_core.specs.Counts.{built_count};
+ghost use Rattle.round_core.specs.Earlier.{AreRight};
+ghost use Rattle.round_core.specs.Reaching.{reached_of};
 ghost use Rattle.round_core.specs.Rounds.{last_choices, last_from, rounds_from, rounds_of};
 ghost use Rattle.round_core.specs.Turns.{IsTurn, LeadsOn, TurnRises};
 ghost use Rattle.round_core.specs.Verdicts.{verdict_in as verdict_for};
 
+use super::earlier::Earlier;
 use super::one_round::round_in;
 use super::reach::{Reached, reach_all};
 use super::verdict::verdict_in;
@@ -15,6 +18,7 @@ use reconcile_rules::Clash;
 use res_base::{List, NoMemory, Steps};
 use resolution::{Ask, Choice, ChoiceRow, Choices, Progress, RoundAnswer, Verdict};
 use std::alloc::Global;
+use std::mem::replace;
 use std::sync::ledger::Ledger;
 
 fn same_clash(a: Clash, b: Clash) -> bool
@@ -108,7 +112,33 @@ fn turn_by(
     Ok(Turn::On(later))
 }
 
-/// One round, after so many others.
+/// One round over what is reached, after so many others.
+fn turn_over(
+    alloc: Global,
+    known: &Known,
+    ask: &Ask,
+    done: u32,
+    round: u32,
+    choices: Choices,
+    reached: &Reached,
+) -> Result<Turn, NoMemory>
+    requires repos { ask.now.repos ≡ known.now.repos }
+    requires round { round ≡ done + 1 }
+    requires reached { reached.now ≡ reached_of (known_of known.now.pairs) ask.now choices.rows }
+    ensures value { IfOk result (IsTurn (known_of known.now.pairs) ask.now done choices.rows) }
+    ensures rises { IfOk result TurnRises }
+{
+    match round_in(alloc, known, ask, reached)? {
+        RoundAnswer::Needs(needs) => Ok(Turn::Ends(Progress::Waiting {
+            round: done,
+            choices,
+            needs,
+        })),
+        RoundAnswer::Next(later) => turn_by(alloc, ask, round, &choices, reached, later),
+    }
+}
+
+/// One round, after so many others. What it builds is kept for the next one.
 fn take_turn<L: Ledger>(
     alloc: Global,
     known: &Known,
@@ -116,25 +146,24 @@ fn take_turn<L: Ledger>(
     done: u32,
     round: u32,
     choices: Choices,
+    earlier: &mut Earlier,
     steps: &mut Steps<L>,
 ) -> Result<Turn, NoMemory>
     requires repos { ask.now.repos ≡ known.now.repos }
     requires rises { Rises (modules_of choices.rows) }
     requires round { round ≡ done + 1 }
+    requires right { AreRight (known_of known.now.pairs) known.now.repos earlier.old.projects.items }
     ensures value { IfOk result (IsTurn (known_of known.now.pairs) ask.now done choices.rows) }
     ensures rises { IfOk result TurnRises }
+    ensures right { OnOk result (AreRight (known_of known.now.pairs) known.now.repos earlier.new.projects.items) }
     ensures steps { IfOk result
         (λ made. steps.old + built_count (known_of known.now.pairs) ask.now choices.rows ≤ steps.new) }
 {
-    let reached = reach_all(alloc, known, ask, choices.rows.as_slice(), steps)?;
-    match round_in(alloc, known, ask, &reached)? {
-        RoundAnswer::Needs(needs) => Ok(Turn::Ends(Progress::Waiting {
-            round: done,
-            choices,
-            needs,
-        })),
-        RoundAnswer::Next(later) => turn_by(alloc, ask, round, &choices, &reached, later),
-    }
+    let before = replace(earlier, Earlier::new(alloc));
+    let reached = reach_all(alloc, known, ask, before, choices.rows.as_slice(), steps)?;
+    let turn = turn_over(alloc, known, ask, done, round, choices, &reached)?;
+    *earlier = Earlier::of(reached);
+    Ok(turn)
 }
 
 /// At most so many rounds.
@@ -154,8 +183,18 @@ fn rounds_up_to<L: Ledger>(
     let mut choices = Choices {
         rows: List::new(alloc),
     };
+    let mut earlier = Earlier::new(alloc);
     for done in 0..most {
-        match take_turn(alloc, known, ask, done, done + 1, choices, steps)? {
+        match take_turn(
+            alloc,
+            known,
+            ask,
+            done,
+            done + 1,
+            choices,
+            &mut earlier,
+            steps,
+        )? {
             Turn::Ends(progress) => return Ok(progress),
             Turn::On(later) => choices = later,
         }
