@@ -1,0 +1,3 @@
+-- What is read of answers.
+pub mod Readings
+pub mod Rows

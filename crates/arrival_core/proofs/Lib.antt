@@ -1,0 +1,5 @@
+-- Lemmas of cores.
+pub mod Keeping
+pub mod Lawful
+pub mod Listed
+pub mod Members
