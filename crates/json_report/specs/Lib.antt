@@ -1,0 +1,3 @@
+pub mod Found
+pub mod Report
+pub mod Rows
