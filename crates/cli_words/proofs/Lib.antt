@@ -1,0 +1,4 @@
+pub mod Unless
+pub mod Simple
+pub mod Readings
+pub mod First

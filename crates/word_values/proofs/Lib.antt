@@ -1,0 +1,9 @@
+pub mod Bars
+pub mod Slashes
+pub mod Room
+pub mod Chains
+pub mod Kept
+pub mod Turns
+pub mod FitLists
+pub mod Repositories
+pub mod Fitting

@@ -1,0 +1,13 @@
+pub mod Refusals
+pub mod Numbers
+pub mod Choices
+pub mod Split
+pub mod Members
+pub mod Addresses
+pub mod Coordinates
+pub mod Exclusions
+pub mod Checks
+pub mod Prefixes
+pub mod Values
+pub mod Samples
+pub mod Fits
