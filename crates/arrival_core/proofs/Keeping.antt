@@ -3,7 +3,7 @@ use Rattle.std.proofs.Common.{◌≡◌, ◌⊎◌, inl, inr, ℕ, ◌<◌, Bool
 use Rattle.std.proofs.lemmas.List.{append-nil}
 use Rattle.std.proofs.lemmas.List.Concat.{flat_map-append}
 use Rattle.arrival_core.specs.Cores.{MayNote, log_after}
-use Rattle.arrival_core.specs.Kept.{IsKept}
+use Rattle.arrival_core.specs.Kept.{Chosen, IsKept, Stood}
 use Rattle.arrival_core.specs.Resolving.{resolver_of, standing_of}
 use Rattle.claim_agenda.specs.Agendas.{IsAgenda, IsClaimable, IsPlan}
 use Rattle.claim_agenda.specs.declared.agenda.Agenda.{Agenda}
@@ -63,47 +63,66 @@ abbrev pub GoesOn : Settings → Ask → Type 0
 GoesOn s ask = (h : History) (e : Entry) → Legal s (resolver_of ask) h → MayCome s (resolver_of ask) h e
     → Legal s (resolver_of ask) (h ++ e ∷ [])
 
-module _ (ask : Ask) (s : Settings) (log : Log) (progress : Progress) (a : Agenda) where
-  pub kept_moved : (caught_up : Bool) (b : Agenda) → IsKept ask s log progress a caught_up
-      → IsAgenda s (resolver_of ask) log.history b → IsKept ask s log progress b caught_up
+module _ (ask : Ask) (s : Settings) (log : Log) (progress : Progress) (built : List Chosen) (a : Agenda) where
+  pub kept_moved : (caught_up : Bool) (b : Agenda) → IsKept ask s log progress built a caught_up
+      → IsAgenda s (resolver_of ask) log.history b → IsKept ask s log progress built b caught_up
   kept_moved caught_up b kept is =
       record {
         repos = kept.repos;
         log_repos = kept.log_repos;
         legal = kept.legal;
+        stood = kept.stood;
         scratch = kept.scratch;
         agenda = λ up. is;
       }
 
-  pub kept_caught_up : (caught_up : Bool) (b : Agenda) (other : Progress) → IsKept ask s log progress a caught_up
-      → other ≡ rounds_of (known_in log.history) ask → IsAgenda s (resolver_of ask) log.history b → IsKept ask s log other b true
-  kept_caught_up caught_up b other kept is agenda =
+  pub kept_caught_up : (caught_up : Bool) (b : Agenda) (other : Progress) (made : List Chosen) → IsKept ask s log progress built a caught_up
+      → Stood ask (known_in log.history) other made
+      → other ≡ rounds_of (known_in log.history) ask → IsAgenda s (resolver_of ask) log.history b → IsKept ask s log other made b true
+  kept_caught_up caught_up b other made kept stood is agenda =
       record {
         repos = kept.repos;
         log_repos = kept.log_repos;
         legal = kept.legal;
+        stood = stood;
         scratch = λ up. is;
         agenda = λ up. agenda;
       }
 
-  module _ (goes_on : GoesOn s ask) (seat : ℕ) where
-    kept_claim : IsKept ask s log progress a true → (key : FileKey) → claim_of s (resolver_of ask) log.history ≡ Claimed key
+  -- without what was built
+  pub kept_bare : (caught_up : Bool) → IsKept ask s log progress built a caught_up → Stood ask (known_in log.history) progress []
+      → IsKept ask s log progress [] a caught_up
+  kept_bare caught_up kept bare =
+      record {
+        repos = kept.repos;
+        log_repos = kept.log_repos;
+        legal = kept.legal;
+        stood = bare;
+        scratch = kept.scratch;
+        agenda = kept.agenda;
+      }
+
+  module _ (goes_on : GoesOn s ask)
+      (grows : (e : Entry) → Stood ask (known_in log.history) progress built → Stood ask (known_in (log.history ++ e ∷ [])) progress built)
+      (seat : ℕ) where
+    kept_claim : IsKept ask s log progress built a true → (key : FileKey) → claim_of s (resolver_of ask) log.history ≡ Claimed key
         → (b : Agenda) → IsAgenda s (resolver_of ask) (log.history ++ entry seat (claim key) ∷ []) b
-        → IsKept ask s (then_by log seat (claim key)) progress b true
+        → IsKept ask s (then_by log seat (claim key)) progress built b true
     kept_claim kept key answer b agenda =
         record {
           repos = kept.repos;
           log_repos = kept.log_repos;
           legal = goes_on log.history (entry seat (claim key)) kept.legal answer;
+          stood = grows (entry seat (claim key)) kept.stood;
           scratch = λ up. kept.scratch up ∙ ap (λ (k : Known). rounds_of k ask) (sym (same_known log.history seat (claim key) refl));
           agenda = λ up. agenda;
         }
 
     -- a claim, by its answer
-    pub kept_after : IsKept ask s log progress a true → (b : Agenda) → IsAgenda s (resolver_of ask) log.history b
+    pub kept_after : IsKept ask s log progress built a true → (b : Agenda) → IsAgenda s (resolver_of ask) log.history b
         → ((key : FileKey) → IsAgenda s (resolver_of ask) (log.history ++ entry seat (claim key) ∷ []) b)
         → (answer : Claim) → claim_of s (resolver_of ask) log.history ≡ answer
-        → IsKept ask s (log_after log seat answer) progress b true
+        → IsKept ask s (log_after log seat answer) progress built b true
     kept_after kept b agenda claimed Over is = kept_moved true b kept agenda
     kept_after kept b agenda claimed (Stuck key) is = kept_moved true b kept agenda
     kept_after kept b agenda claimed TooMany is = kept_moved true b kept agenda
@@ -111,27 +130,29 @@ module _ (ask : Ask) (s : Settings) (log : Log) (progress : Progress) (a : Agend
     kept_after kept b agenda claimed NoneNow is = kept_moved true b kept agenda
 
     -- an end after which the core is not caught up
-    pub kept_end : (caught_up : Bool) → IsKept ask s log progress a caught_up → (w : What)
-        → may_come s (resolver_of ask) log.history seat w → IsKept ask s (then_by log seat w) progress a false
+    pub kept_end : (caught_up : Bool) → IsKept ask s log progress built a caught_up → (w : What)
+        → may_come s (resolver_of ask) log.history seat w → IsKept ask s (then_by log seat w) progress built a false
     kept_end caught_up kept w may =
         record {
           repos = kept.repos;
           log_repos = kept.log_repos;
           legal = goes_on log.history (entry seat w) kept.legal may;
+          stood = grows (entry seat w) kept.stood;
           scratch = λ up. absurd (true≢false (sym up));
           agenda = λ up. absurd (true≢false (sym up));
         }
 
     -- a key that is given back
-    pub kept_return : (caught_up : Bool) → IsKept ask s log progress a caught_up → (key : FileKey)
+    pub kept_return : (caught_up : Bool) → IsKept ask s log progress built a caught_up → (key : FileKey)
         → holder log.history key ≡ Some seat → (b : Agenda)
         → (IsAgenda s (resolver_of ask) log.history a → IsAgenda s (resolver_of ask) (log.history ++ entry seat (give_back key) ∷ []) b)
-        → IsKept ask s (then_by log seat (give_back key)) progress b caught_up
+        → IsKept ask s (then_by log seat (give_back key)) progress built b caught_up
     kept_return caught_up kept key own b agenda =
         record {
           repos = kept.repos;
           log_repos = kept.log_repos;
           legal = goes_on log.history (entry seat (give_back key)) kept.legal own;
+          stood = grows (entry seat (give_back key)) kept.stood;
           scratch = λ up. kept.scratch up ∙ ap (λ (k : Known). rounds_of k ask) (sym (same_known log.history seat (give_back key) refl));
           agenda = λ up. agenda (kept.agenda up);
         }

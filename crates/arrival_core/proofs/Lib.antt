@@ -3,3 +3,4 @@ pub mod Keeping
 pub mod Lawful
 pub mod Listed
 pub mod Members
+pub mod Standing

@@ -2,6 +2,7 @@
 ghost use Rattle.std.specs.Option.{option_copied};
 ghost use Rattle.std.specs.Prelude.{◌≡◌, ◌<◌, ◌≤◌, ◌↔◌, [], Bool, IfErr, IfOk, IsOk, OnErr, OnOk, Some, false, true};
 ghost use Rattle.arrival_core.specs.Cores.{MayNote, after_claim, caught_up_from, log_after, then_by, verdict_in};
+ghost use Rattle.arrival_core.specs.Kept.{IsGoneOn, Stood};
 ghost use Rattle.arrival_core.specs.Resolving.{resolver_of};
 ghost use Rattle.claim_agenda.specs.Agendas.{IsAgenda};
 ghost use Rattle.claim_log.specs.Events.{events_of};
@@ -10,38 +11,107 @@ ghost use Rattle.claim_rules.specs.Claims.{IsAnswer, claim_of};
 ghost use Rattle.claim_rules.specs.Histories.{any_in_flight, arrive, broke as breaks, give_back as returns_it, holder, known_in, pairs_in};
 ghost use Rattle.claim_rules.specs.Legal.{Legal};
 ghost use Rattle.project_lookup.specs.KnownPairs.{stands_at};
+ghost use Rattle.res_base.specs.Known.{known_of};
 ghost use Rattle.round_core.specs.Rounds.{rounds_of};
 
-use super::laws::{keys_listed, rounds_lawful};
+use super::laws::{keys_listed, rounds_lawful, rounds_stand};
 use super::needs::{is_over, needs_of};
 use claim_agenda::{Agenda, agenda_laws, next_claim};
 use claim_log::{AbsorbErr, ClaimLog, Event, NotClaimed};
 use claim_rules::{Claim, CoreLimits, Settings, Why, claim_answers, legal_histories};
 use project_lookup::Known;
-use res_base::{FileKey, List, NoMemory, Reading, Steps};
-use round_core::{Ask, Choices, Progress, Verdict, rounds_plain};
+use res_base::{Copied, FileKey, List, NoMemory, Reading, Steps};
+use round_core::{Ask, BuiltProjects, Choices, Progress, Verdict, rounds_on};
 use std::alloc::Global;
 use std::marker::Model;
+use std::mem::replace;
 use std::sync::ledger::Ledger;
 
-/// How far the rounds come over all that is known, and what is to be claimed there.
-fn planned<L: Ledger>(
+/// The rounds over all that is known, from where they stood, with the projects that they built;
+/// none where they were over then.
+fn gone_on<L: Ledger>(
+    alloc: Global,
+    known: &Known,
+    ask: &Ask,
+    progress: &Progress,
+    built: BuiltProjects,
+    steps: &mut Steps<L>,
+) -> Result<Option<(Progress, BuiltProjects)>, NoMemory>
+    requires repos { known.now.repos ≡ ask.now.repos }
+    requires stood { Stood ask.now (known_of known.now.pairs) progress.now built }
+    ensures { IfOk result (IsGoneOn ask.now (known_of known.now.pairs) progress.now) }
+{
+    match progress {
+        Progress::Over(_) => Ok(None),
+        Progress::Waiting { round, choices, .. } => {
+            let choices = choices.copy(alloc)?;
+            let made = rounds_on(alloc, known, ask, *round, choices, built, steps)?;
+            Ok(Some(made))
+        }
+    }
+}
+
+/// What is to be claimed where the rounds come so far over all that is known.
+fn agenda_at(
     alloc: Global,
     ask: &Ask,
     settings: &Settings,
     log: &ClaimLog,
-    steps: &mut Steps<L>,
-) -> Result<(Progress, Agenda), NoMemory>
-    requires { log.now.repos ≡ ask.now.repos }
-    ensures scratch { IfOk result (λ made. made.0 ≡ rounds_of (known_in log.now.history) ask.now) }
-    ensures agenda { IfOk result (λ made. IsAgenda settings.now (resolver_of ask.now) log.now.history made.1) }
+    progress: &Progress,
+) -> Result<Agenda, NoMemory>
+    requires scratch { progress.now ≡ rounds_of (known_in log.now.history) ask.now }
+    ensures { IfOk result (IsAgenda settings.now (resolver_of ask.now) log.now.history) }
 {
     agenda_laws::<Verdict>();
-    let progress = rounds_plain(alloc, log.known(), ask, steps)?;
-    let needs = needs_of(alloc, log.known(), ask.files, &progress)?;
-    let ends = is_over(&progress, needs.as_slice());
+    let needs = needs_of(alloc, log.known(), ask.files, progress)?;
+    let ends = is_over(progress, needs.as_slice());
     let agenda = Agenda::plan(alloc, settings, ends, needs)?;
-    Ok((progress, agenda))
+    Ok(agenda)
+}
+
+/// What is to be claimed where the rounds went on so, or stand where they were over.
+fn agenda_after(
+    alloc: Global,
+    ask: &Ask,
+    settings: &Settings,
+    log: &ClaimLog,
+    progress: &Progress,
+    gone: Option<&(Progress, BuiltProjects)>,
+) -> Result<Agenda, NoMemory>
+    requires gone { IsGoneOn ask.now (known_in log.now.history) progress.now (option_copied gone) }
+    ensures { IfOk result (IsAgenda settings.now (resolver_of ask.now) log.now.history) }
+{
+    match gone {
+        None => agenda_at(alloc, ask, settings, log, progress),
+        Some((later, _)) => agenda_at(alloc, ask, settings, log, later),
+    }
+}
+
+/// How far the rounds come over all that is known, and what is to be claimed there.
+fn ahead<L: Ledger>(
+    alloc: Global,
+    ask: &Ask,
+    settings: &Settings,
+    log: &ClaimLog,
+    progress: &Progress,
+    built: BuiltProjects,
+    steps: &mut Steps<L>,
+) -> Result<(Option<(Progress, BuiltProjects)>, Agenda), NoMemory>
+    requires repos { log.now.repos ≡ ask.now.repos }
+    requires stood { Stood ask.now (known_in log.now.history) progress.now built }
+    ensures gone { IfOk result (λ made. IsGoneOn ask.now (known_in log.now.history) progress.now made.0) }
+    ensures agenda { IfOk result (λ made. IsAgenda settings.now (resolver_of ask.now) log.now.history made.1) }
+{
+    let gone = gone_on(alloc, log.known(), ask, progress, built, steps)?;
+    let agenda = agenda_after(alloc, ask, settings, log, progress, gone.as_ref())?;
+    Ok((gone, agenda))
+}
+
+/// Puts a value in the place of another.
+fn put<T: Drop>(place: &mut T, value: T)
+    ensures { place.new ≡ value }
+{
+    *place = value;
 }
 
 /// Puts a claim into the log by its answer: only a claimed key makes an entry.
@@ -68,6 +138,8 @@ pub struct Core {
     settings: Settings,
     log: ClaimLog,
     progress: Progress,
+    /// What the rounds built so far and need not build again.
+    built: BuiltProjects,
     agenda: Agenda,
     caught_up: bool,
 }
@@ -81,7 +153,7 @@ impl Model for Core {
 
     ghost view = { λ core. record { ask = core.ask; settings = core.settings; history = core.log.history; caught_up = core.caught_up; progress = core.progress } };
 
-    ghost invariant = { λ core. IsKept core.ask core.settings core.log core.progress core.agenda core.caught_up };
+    ghost invariant = { λ core. IsKept core.ask core.settings core.log core.progress core.built core.agenda core.caught_up };
 }
 
 impl Core {
@@ -120,6 +192,7 @@ impl Core {
             settings,
             log,
             progress,
+            built: BuiltProjects::none(alloc),
             agenda: Agenda::empty(alloc),
             caught_up: false,
         })
@@ -139,11 +212,27 @@ impl Core {
         if self.caught_up {
             return Ok(());
         }
-        let (progress, agenda) = planned(alloc, &self.ask, &self.settings, &self.log, steps)?;
-        self.progress = progress;
+        rounds_stand();
+        let built = replace(&mut self.built, BuiltProjects::none(alloc));
+        let (gone, agenda) = ahead(
+            alloc,
+            &self.ask,
+            &self.settings,
+            &self.log,
+            &self.progress,
+            built,
+            steps,
+        )?;
         self.agenda = agenda;
         self.caught_up = true;
-        Ok(())
+        match gone {
+            None => Ok(()),
+            Some((progress, built)) => {
+                put(&mut self.progress, progress);
+                put(&mut self.built, built);
+                Ok(())
+            }
+        }
     }
 
     /// Whether the progress is that over all that is known.
@@ -168,6 +257,7 @@ impl Core {
         ensures err { OnErr result (self.new ≡ self.old) }
     {
         rounds_lawful();
+        rounds_stand();
         keys_listed();
         claim_answers::<Verdict>();
         legal_histories::<Verdict>();
@@ -195,6 +285,7 @@ impl Core {
         ensures unchanged { OnErr result (self.new ≡ self.old) }
     {
         legal_histories::<Verdict>();
+        rounds_stand();
         match self.log.absorb(alloc, seat, key, reading) {
             Err(refusal) => Err(refusal),
             Ok(()) => {
@@ -213,6 +304,7 @@ impl Core {
         ensures err { OnErr result (self.new ≡ self.old) }
     {
         legal_histories::<Verdict>();
+        rounds_stand();
         self.log.broke(seat, key, why)?;
         self.caught_up = false;
         Ok(())
@@ -228,6 +320,7 @@ impl Core {
     {
         legal_histories::<Verdict>();
         agenda_laws::<Verdict>();
+        rounds_stand();
         self.log.give_back(seat, key)?;
         self.agenda.begin_anew();
         Ok(())

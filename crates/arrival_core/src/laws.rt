@@ -1,8 +1,9 @@
 //! Laws, with nothing to run.
-ghost use Rattle.std.specs.Prelude.{◌≡◌, ◌≤◌, ◌<◌, ◌+◌, ◌++◌, ◌↔◌, ℕ, true};
+ghost use Rattle.std.specs.Prelude.{◌≡◌, ◌≤◌, ◌<◌, ◌+◌, ◌++◌, ◌∷◌, ◌↔◌, ℕ, List, [], true};
+ghost use Rattle.arrival_core.specs.Kept.{Chosen, Stood};
 ghost use Rattle.arrival_core.specs.Resolving.{resolver_of};
 ghost use Rattle.claim_rules.specs.Counts.{claims, claims_of};
-ghost use Rattle.claim_rules.specs.Histories.{History, known_in, pairs_in};
+ghost use Rattle.claim_rules.specs.Histories.{Entry, History, known_in, pairs_in};
 ghost use Rattle.claim_rules.specs.Legal.{Legal, StopsFrom};
 ghost use Rattle.claim_rules.specs.Resolvers.{IsLawful};
 ghost use Rattle.claim_rules.specs.Sessions.{hints, is_over, needed, needs};
@@ -14,13 +15,15 @@ ghost use Rattle.res_base.specs.declared.key.FileKey.{FileKey as Key};
 ghost use Rattle.res_base.specs.declared.reading.Reading.{Reading as Read};
 ghost use Rattle.resolution.specs.declared.ask.Ask.{Ask as Asking};
 ghost use Rattle.resolution.specs.declared.verdict.Verdict.{Verdict as Outcome};
+ghost use Rattle.resolution.specs.declared.progress.Progress.{Progress as Standing};
 ghost use Rattle.resolution.specs.declared.progress.Progress.TheVariants.{Over as OverBy};
+ghost use Rattle.round_core.specs.Earlier.{AreLasting};
 ghost use Rattle.round_core.specs.Rounds.{rounds_of};
 
 use claim_rules::{claims_counted, legal_histories, over_stays, session_needs};
 use pom_build::answer_laws;
 use res_base::{known_grows, known_pairs};
-use round_core::{Verdict, growth_laws, look_laws, settled_laws, wait_laws};
+use round_core::{Verdict, growth_laws, look_laws, settled_laws, standing_laws, wait_laws};
 
 /// A law: the rounds of an ask keep what the rules of claims ask of them.
 pub fn rounds_lawful()
@@ -41,6 +44,21 @@ pub(crate) fn keys_listed()
     answer_laws();
     settled_laws();
     wait_laws();
+}
+
+/// A law: where the rounds stood, they can go on once more is known; and so they can where they
+/// come now, with what they built. What they built is not needed for that.
+pub(crate) fn rounds_stand()
+    ensures grows { (ask : Asking) (h : History) (e : Entry) (stood : Standing) (built : List Chosen)
+        → Stood ask (known_in h) stood built → Stood ask (known_in (h ++ e ∷ [])) stood built }
+    ensures made { (ask : Asking) (known : Map) (stood : Standing) (built : List Chosen) → stood ≡ rounds_of known ask
+        → AreLasting known ask.repos built → Stood ask known stood built }
+    ensures bare { (ask : Asking) (known : Map) (stood : Standing) (built : List Chosen)
+        → Stood ask known stood built → Stood ask known stood [] }
+{
+    growth_laws();
+    standing_laws();
+    legal_histories::<Verdict>();
 }
 
 /// A law of sessions in which more and more is known. The progress depends on what is known as a

@@ -3,11 +3,14 @@ use Rattle.std.specs.Prelude.{ℕ, ◌≡◌, List, Option, Some, None, IfSome, 
 use Rattle.sha1.specs.Sha1.{sha1}
 use Rattle.sha2.specs.Sha256.{sha256}
 use Rattle.cache_images.specs.Places.{IsDataName, gone_name, record_name}
+use Rattle.cache_layout.specs.Addresses.{IsAddress}
 use Rattle.cache_layout.specs.Names.{name_of}
 use Rattle.cache_layout.specs.Readings.{gone_in, record_in}
 use Rattle.cache_layout.specs.declared.record.Record.{Record}
 use Rattle.digest_check.specs.KeyAnswers.{checked}
 use Rattle.disk_base.specs.Images.{Image}
+use Rattle.hex.specs.Hex.{IsBytes}
+use Rattle.res_base.specs.Paths.{url_at}
 use Rattle.res_base.specs.World.{at}
 use Rattle.res_base.specs.declared.reading.Answer.TheVariants as answers
 use Rattle.res_base.specs.declared.world.WorldRow.{WorldRow}
@@ -44,15 +47,24 @@ AnyLine name line = Unit {0}
 abbrev pub IsSound : Image → Type 0
 IsSound = EachFile HasItsRecord AnyLine
 
--- the bytes are the world's at each URL of this name, and the checks of the record in this line accept them
+-- the URL of a file at a path below an address, whose name in the cache this is; a name has one such URL
+pub record IsUrlOf (name url : List ℕ) : Type 0 where
+  pub address : List ℕ
+  pub path : List ℕ
+  pub whole : url ≡ url_at address path
+  pub reads : IsAddress address
+  pub bytes : IsBytes url
+  pub named : name_of url ≡ name
+
+-- the bytes are the world's at the URL of this name, and the checks of the record in this line accept them
 abbrev pub IsWorlds : List WorldRow → List ℕ → List ℕ → Option (List ℕ) → Type 0
-IsWorlds w name bytes line = (url : List ℕ) → name_of url ≡ name → (at w url ≡ Some bytes)
+IsWorlds w name bytes line = (url : List ℕ) → IsUrlOf name url → (at w url ≡ Some bytes)
     × ((text : List ℕ) (entry : Record) → line ≡ Some text → record_in text ≡ Some entry
     → checked (at w) url bytes entry.checks ≡ answers.Bytes bytes)
 
 -- where the line reads, the world has no such file
 abbrev pub IsGoneIn : List WorldRow → List ℕ → List ℕ → Type 0
-IsGoneIn w name line = (url : List ℕ) (moment : ℕ) → name_of url ≡ name → gone_in line ≡ Some moment → at w url ≡ None
+IsGoneIn w name line = (url : List ℕ) (moment : ℕ) → IsUrlOf name url → gone_in line ≡ Some moment → at w url ≡ None
 
 -- Each data file is the world's, accepted by the checks of its record; and what an absence record names is absent there.
 abbrev pub IsFaithful : List WorldRow → Image → Type 0

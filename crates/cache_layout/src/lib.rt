@@ -14,8 +14,6 @@ mod numbers;
 mod pieces;
 mod record;
 mod record_lines;
-#[cfg(test)]
-mod tests;
 
 pub use addresses::is_address;
 pub use errors::{BadLine, NameErr, RecordErr};

@@ -5,8 +5,11 @@ ghost use Rattle.std.specs.Prelude.{◌≡◌, IfOk, vec_len};
 
 use coursier_run::run_still;
 use link_base::{Sink, SinkErr};
+use real_disk::FolderDisk;
 use real_edge::{RealClock, RealLink, RealSink};
+use res_base::Text;
 use std::alloc::{AllocFailed, Global};
+use std::env::VarError;
 use std::io::ErrorKind;
 use std::process::ExitCode;
 use std::{env, io};
@@ -51,9 +54,27 @@ fn real_links(rt: HostRuntime) -> Result<Vec<RealLink<HostRuntime>>, StartErr>
 {
     let mut links = Vec::new(rt.alloc());
     for _link in 0..LINKS {
-        links.push(RealLink::new(rt))?;
+        links.push(RealLink::new(rt.alloc(), rt))?;
     }
     Ok(links)
+}
+
+/// The folder of the cache: that of the variable `COURSIER_CACHE`, or `coursier-cache` where it is
+/// not set, empty or not UTF-8.
+fn cache_folder(rt: &HostRuntime) -> Result<Text, StartErr> {
+    match env::var(rt, "COURSIER_CACHE") {
+        Ok(folder) => {
+            if !folder.is_empty() {
+                return Ok(Text::from_string(folder));
+            }
+        }
+        Err(VarError::OutOfMemory) => return Err(StartErr::NoMemory),
+        Err(_) => {}
+    }
+    match Text::of(rt.alloc(), "coursier-cache") {
+        Ok(folder) => Ok(folder),
+        Err(_) => Err(StartErr::NoMemory),
+    }
 }
 
 /// Puts the line of what went wrong, and gives the status.
@@ -81,6 +102,10 @@ fn main(rt: HostRuntime) -> ExitCode {
         Ok(links) => links,
         Err(why) => return ExitCode::from(refuse(alloc, why, &mut err)),
     };
+    let folder = match cache_folder(&rt) {
+        Ok(folder) => folder,
+        Err(why) => return ExitCode::from(refuse(alloc, why, &mut err)),
+    };
     let mut clock = RealClock::new(rt);
     let words = words.as_slice();
     let served = run_still(
@@ -88,7 +113,7 @@ fn main(rt: HostRuntime) -> ExitCode {
         alloc,
         words,
         &mut links,
-        (),
+        FolderDisk::new(alloc, rt, folder),
         &mut clock,
         &mut out,
         &mut err,

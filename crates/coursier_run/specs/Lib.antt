@@ -1,8 +1,3 @@
--- Words, addresses and lines of the command, and what the top call promises.
-pub mod Addresses
-pub mod Answers
-pub mod Lines
-pub mod Outcomes
+-- Why something is said, and what the top call promises of it, status by status.
+pub mod Justified
 pub mod Promises
-pub mod Said
-pub mod Words

@@ -1,66 +1,95 @@
 -- What the top call promises, status by status. All of it follows from how the call ends.
-use Rattle.std.specs.Prelude.{ℕ, ◌≡◌, ◌⊎◌, List, IsTrue, codes}
-use Rattle.res_base.specs.Plain.{is_plain_coord}
+use Rattle.std.specs.Prelude.{ℕ, ◌≡◌, ◌⊎◌, ◌≤◌, Bool, true, false, List, Option, Some, Ok, Err, length}
+use Rattle.cache_policy.specs.declared.Mode.TheVariants.{Offline}
+use Rattle.cli_words.specs.Words.{job_in}
+use Rattle.command_lines.specs.Refusals.{line_of, said_of}
+use Rattle.command_lines.specs.declared.refusals.Refusal.TheVariants as refusals
+use Rattle.digest_check.specs.KeyAnswers.{key_url}
+use Rattle.disk_base.specs.declared.disk_errors.DiskCall.{DiskCall}
+use Rattle.coursier_run.specs.Justified.{IsSampleOf}
+use Rattle.job_session.specs.Answers.{files_of, printed}
+use Rattle.job_session.specs.Beginnings.{plan_for}
+use Rattle.line_streams.specs.Outcomes.{Streams, IsTold, IsCut, IsCutErr}
+use Rattle.line_streams.specs.Said.{memory_line}
 use Rattle.link_base.specs.Links.{Rows}
-use Rattle.coursier_run.specs.declared.said.Said.TheVariants.{Tells}
-use Rattle.coursier_run.specs.declared.words.Job.{Job}
-use Rattle.coursier_run.specs.declared.words.WordKind.{WordKind}
-use Rattle.coursier_run.specs.declared.words.Words.TheVariants.{Asks, BadWords, NotBuilt}
-use Rattle.coursier_run.specs.Lines.{words_line, not_built_line, memory_line, repository_line}
-use Rattle.coursier_run.specs.Outcomes.{Streams, IsTold, IsCut, IsCutErr}
-use Rattle.coursier_run.specs.Words.{words_of}
-use Rattle.coursier_run.specs.Answers.{root_url, found_said, not_built_said, HasLonePom}
+use Rattle.pool_rules.specs.Worlds.{whole_of}
+use Rattle.res_base.specs.Causes.{Rose}
+use Rattle.res_base.specs.Known.{Known, known_of}
+use Rattle.res_base.specs.declared.key.FileKey.{FileKey}
+use Rattle.res_base.specs.declared.reading.Reading.{Reading}
+use Rattle.resolution.specs.declared.progress.Progress.TheVariants.{Over}
+use Rattle.resolution.specs.declared.verdict.Verdict.{Verdict}
+use Rattle.round_core.specs.Rounds.{rounds_of}
+use Rattle.word_values.specs.Fits.{is_sample}
+use Rattle.word_values.specs.declared.job.Job.{Job}
+use Rattle.word_values.specs.declared.refusals.WordKind.{WordKind}
+use Rattle.word_values.specs.declared.refusals.WordsErr.TheVariants.{BadWords}
 
--- no other status comes
-abbrev pub IsStatus : ℕ → Type 0
-IsStatus status = (status ≡ 0) ⊎ (status ≡ 2) ⊎ (status ≡ 3) ⊎ (status ≡ 5) ⊎ (status ≡ 6) ⊎ (status ≡ 9)
+-- all answers of a world to a job
+abbrev pub whole_for : Job → Rows → Known
+whole_for job w = whole_of (plan_for job 0) w
 
--- at 0 the root's line went out, and the root is found in each world that the links agree with
-pub record PrintsRoot (Agree : Rows → Type 0) (words : List (List ℕ)) (s : Streams) : Type 0 where
+-- in this world the rounds from nothing have this verdict, whose files are there what is printed of them
+pub record IsVerdictIn (job : Job) (verdict : Verdict) (known : Known) (w : Rows) : Type 0 where
+  pub over : rounds_of (whole_for job w) job.ask ≡ Over verdict
+  pub files : files_of job verdict known ≡ files_of job verdict (whole_for job w)
+
+-- the worlds of which a job speaks: those that the links agree with, and for `sample` the one that it makes up
+abbrev pub world_by : Bool → (Rows → Type 0) → Job → Rows → Type 0
+world_by true World job w = IsSampleOf job.sample w
+world_by false World job w = World w
+
+-- At 0 and 1 the text went out that belongs to the verdict of rounds from nothing over what was known, and in each world
+-- that is the verdict of rounds over all its answers.
+pub record PrintsVerdict (World : Rows → Type 0) (words : List (List ℕ)) (s : Streams) (status : ℕ) : Type 0 where
   pub job : Job
-  pub read : words_of words ≡ Asks job
-  pub told : IsTold s (found_said job) 0
-  pub found : (w : Rows) → Agree w → HasLonePom w job
+  pub read : job_in words ≡ Ok job
+  pub known : List (FileKey × Reading)
+  pub verdict : Verdict
+  pub over : rounds_of (known_of known) job.ask ≡ Over verdict
+  pub told : IsTold s (printed job verdict (known_of known) (length known)) status
+  pub worlds : (w : Rows) → world_by (is_sample job.command) World job w → IsVerdictIn job verdict (known_of known) w
 
--- at 2 the words are refused, and the line says what is wrong and where
+-- At 2 the words are refused, and the line says what is wrong and where.
 pub record RefusesWords (words : List (List ℕ)) (s : Streams) : Type 0 where
   pub kind : WordKind
   pub place : ℕ
-  pub read : words_of words ≡ BadWords kind place
-  pub told : IsTold s (Tells 2 (words_line kind place)) 2
+  pub read : job_in words ≡ Err (BadWords kind place)
+  pub told : IsTold s (said_of (refusals.Words kind place)) 2
 
--- at 3 a link failed at the file that was asked, and the line names this file
-pub record BlamesLink (FailedAt : List ℕ → Type 0) (words : List (List ℕ)) (s : Streams) : Type 0 where
+-- At 4 the disk failed in this call, and the line names the call that failed last.
+pub record BlamesDisk (before now : ℕ) (last : Option DiskCall) (s : Streams) : Type 0 where
+  pub call : DiskCall
+  pub rose : Rose before now
+  pub failed : last ≡ Some call
+  pub told : IsTold s (said_of (refusals.Disk call)) 4
+
+-- At 3 a key was needed and the link failed at it as often as it may be asked, and the line names its URL. But for a
+-- repository that is made up, it is the link of this call that failed.
+pub record BlamesLink (LinkRose : Type 0) (words : List (List ℕ)) (s : Streams) : Type 0 where
   pub job : Job
-  pub read : words_of words ≡ Asks job
-  pub plain : IsTrue (is_plain_coord job.root)
-  pub failed : FailedAt (root_url job)
-  pub told : IsTold s (Tells 3 (repository_line (root_url job))) 3
+  pub read : job_in words ≡ Ok job
+  pub key : FileKey
+  pub online : job.mode ≡ Offline → ⊥
+  pub failed : is_sample job.command ≡ false → LinkRose
+  pub told : IsTold s (said_of (refusals.Repository (key_url job.addresses key))) 3
 
--- at 9 the words ask for what is not built yet
-pub record LeavesWords (words : List (List ℕ)) (s : Streams) : Type 0 where
-  pub read : words_of words ≡ NotBuilt
-  pub told : IsTold s (Tells 9 (not_built_line (codes "words"))) 9
-
--- or the root's project is, in each world that the links agree with
-pub record LeavesRoot (Agree : Rows → Type 0) (words : List (List ℕ)) (s : Streams) : Type 0 where
+-- At 7 nobody may be asked, and a key is needed that the cache lacks.
+pub record LacksFile (words : List (List ℕ)) (s : Streams) : Type 0 where
   pub job : Job
-  pub read : words_of words ≡ Asks job
-  pub told : IsTold s (not_built_said job) 9
-  pub not_found : (w : Rows) → Agree w → HasLonePom w job → ⊥
+  pub read : job_in words ≡ Ok job
+  pub key : FileKey
+  pub offline : job.mode ≡ Offline
+  pub told : IsTold s (said_of (refusals.NotCached (key_url job.addresses key))) 7
+
+-- At 8 a key was needed and as many claims were made as there may be.
+pub record NeedsMany (words : List (List ℕ)) (s : Streams) : Type 0 where
+  pub job : Job
+  pub read : job_in words ≡ Ok job
+  pub told : IsTold s (said_of refusals.TooManyFiles) 8
 
 -- refused words end with status 2 and their line, unless there is no memory or the sink fails
 abbrev pub AnswersRefusal : Type 0 → List (List ℕ) → Streams → ℕ → Type 0
-AnswersRefusal err_rose words s status = (kind : WordKind) (place : ℕ) → words_of words ≡ BadWords kind place
-    → IsTold s (Tells 2 (words_line kind place)) status
-    ⊎ (IsCut err_rose status × (IsCutErr s (words_line kind place) ⊎ IsCutErr s memory_line))
-
--- where no count rose, the status is the one that the words and the world call for, or there was no memory
-pub record IsComplete (Agree : Rows → Type 0) (words : List (List ℕ)) (status : ℕ) : Type 0 where
-  pub refused : (kind : WordKind) (place : ℕ) → words_of words ≡ BadWords kind place → (status ≡ 2) ⊎ (status ≡ 5)
-  pub not_built : words_of words ≡ NotBuilt → (status ≡ 9) ⊎ (status ≡ 5)
-  pub any_world : (job : Job) → words_of words ≡ Asks job → (status ≡ 0) ⊎ (status ≡ 9) ⊎ (status ≡ 5)
-  pub found : (job : Job) (w : Rows) → words_of words ≡ Asks job → Agree w → HasLonePom w job
-      → (status ≡ 0) ⊎ (status ≡ 5)
-  pub not_found : (job : Job) (w : Rows) → words_of words ≡ Asks job → Agree w → (HasLonePom w job → ⊥)
-      → (status ≡ 9) ⊎ (status ≡ 5)
+AnswersRefusal err_rose words s status = (kind : WordKind) (place : ℕ) → job_in words ≡ Err (BadWords kind place)
+    → IsTold s (said_of (refusals.Words kind place)) status
+    ⊎ (IsCut err_rose status × (IsCutErr s (line_of (refusals.Words kind place)) ⊎ IsCutErr s memory_line))

@@ -1,17 +1,11 @@
 //! The top call: from the words of a command to the bytes on its output.
 #![tactic(auto)]
 
-mod address;
-mod answer;
-mod said;
+mod laws;
+mod run;
+mod sample;
 mod still;
-mod tell;
-mod version;
-mod words;
 
-pub use said::Said;
+pub use command_lines::render;
+pub use line_streams::Rendered;
 pub use still::{Served, run_still};
-pub use words::{Job, WordKind, Words};
-
-#[cfg(test)]
-mod tests;

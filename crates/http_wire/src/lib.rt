@@ -10,8 +10,6 @@ mod line_places;
 mod replies;
 mod reply_reader;
 mod requests;
-#[cfg(test)]
-mod tests;
 
 pub use laws::{
     content_grows, final_stays, one_outcome, read_is_outcome, shown_is_seen, within_limit,

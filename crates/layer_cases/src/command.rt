@@ -10,7 +10,7 @@ use round_cases::{artifacts, rounds};
 use std::alloc::{AllocError, Global};
 use std::str;
 use value_cases::{choices, coordinates, digests, exclusions, intervals, scopes, versions};
-use wire_cases::replies;
+use wire_cases::{replies, visits};
 
 fn answer_words(alloc: Global, words: &[&str]) -> Result<String, CaseError> {
     let [command, fields @ ..] = words else {
@@ -48,6 +48,7 @@ fn answer_words(alloc: Global, words: &[&str]) -> Result<String, CaseError> {
         "request" => replies::request(alloc, fields),
         "reply" => replies::reply(alloc, fields),
         "reply-cut" => replies::reply_cut(alloc, fields),
+        "visit" => visits::visit(alloc, fields),
         _ => Err(CaseError::OutOfForm),
     }
 }

@@ -11,8 +11,6 @@ mod memory_link;
 mod memory_sink;
 mod pieces;
 mod sinks;
-#[cfg(test)]
-mod tests;
 mod world_files;
 
 pub use addresses::{Address, read_address};

@@ -4,8 +4,6 @@
 mod laws;
 mod listing_err;
 mod read;
-#[cfg(test)]
-mod tests;
 mod versions;
 
 pub use laws::reading_laws;

@@ -19,7 +19,7 @@ use Rattle.pom_build.specs.declared.outcome.Outcome.{Outcome}
 use Rattle.pom_build.specs.declared.outcome.Outcome.TheVariants.{Built, Needs, NotFound, Refused}
 use Rattle.pom_build.proofs.Members.{none, first, later, first_or_later}
 
-abbrev IsBuilt : {A : Type 0} → Outcome A → Type 0
+abbrev pub IsBuilt : {A : Type 0} → Outcome A → Type 0
 IsBuilt (Built part) = Unit {0}
 IsBuilt (Needs keys) = ⊥
 IsBuilt (NotFound why) = ⊥
@@ -63,7 +63,7 @@ module _ (k : Coord → Outcome (List DepRecord)) where
   abbrev AllBuilt : List DepRecord → Type 0
   AllBuilt rows = (row : DepRecord) → Contains rows row → IsBuilt (k (import_coord row))
 
-  import_parts : (rows : List DepRecord) (so_far : Outcome (List DepRecord)) → IsBuilt (import_all k so_far rows)
+  pub import_parts : (rows : List DepRecord) (so_far : Outcome (List DepRecord)) → IsBuilt (import_all k so_far rows)
       → IsBuilt so_far × AllBuilt rows
   import_parts [] so_far h = (h, λ row m. absurd (none row m))
   import_parts (row ∷ rows) so_far h =
@@ -71,7 +71,7 @@ module _ (k : Coord → Outcome (List DepRecord)) where
       let here = merged_parts so_far (k (import_coord row)) after.0 in
       (here.0, λ one m. ⊎_elim (λ is. subst (λ x. IsBuilt (k (import_coord x))) is here.1) (after.1 one) (first_or_later row rows one m))
 
-  imports_alike : (l : Coord → Outcome (List DepRecord)) (rows : List DepRecord)
+  pub imports_alike : (l : Coord → Outcome (List DepRecord)) (rows : List DepRecord)
       → ((row : DepRecord) → Contains rows row → l (import_coord row) ≡ k (import_coord row))
       → (so_far : Outcome (List DepRecord)) → import_all l so_far rows ≡ import_all k so_far rows
   imports_alike l [] same so_far = refl
@@ -112,7 +112,7 @@ or_right : (b : Bool) → (b || false) ≡ b
 or_right true = refl
 or_right false = refl
 
-longer : (c one : Coord) (chain : List Coord) → is_among c (chain ++ one ∷ []) ≡ (is_among c chain || coord_eq c one)
+pub longer : (c one : Coord) (chain : List Coord) → is_among c (chain ++ one ∷ []) ≡ (is_among c chain || coord_eq c one)
 longer c one chain =
     list_any-append (coord_eq c) chain (one ∷ []) ∙ ap (λ b. is_among c chain || b) (or_right (coord_eq c one))
 
@@ -120,17 +120,17 @@ neither : (a b : Bool) → (a || b) ≡ false → (a ≡ false) × (b ≡ false)
 neither true b e = absurd (true≢false e)
 neither false b e = (refl, e)
 
-both_false : (a b : Bool) → a ≡ false → b ≡ false → (a || b) ≡ false
+pub both_false : (a b : Bool) → a ≡ false → b ≡ false → (a || b) ≡ false
 both_false true b e f = e
 both_false false b e f = f
 
-apart_last : (c one : Coord) (chain : List Coord) → is_among c (chain ++ one ∷ []) ≡ false
+pub apart_last : (c one : Coord) (chain : List Coord) → is_among c (chain ++ one ∷ []) ≡ false
     → (is_among c chain ≡ false) × (coord_eq c one ≡ false)
 apart_last c one chain e = neither (is_among c chain) (coord_eq c one) (sym (longer c one chain) ∙ e)
 
 -- Coordinates that rows reach.
 
-from_rows : (f : Coord → List Coord) (c : Coord) (rows : List DepRecord) → Contains (reached_by_rows f rows) c
+pub from_rows : (f : Coord → List Coord) (c : Coord) (rows : List DepRecord) → Contains (reached_by_rows f rows) c
     → (row : DepRecord) × Contains rows row × Contains (f (import_coord row)) c
 from_rows f c [] h = absurd (none c h)
 from_rows f c (row ∷ rows) h =
@@ -138,7 +138,7 @@ from_rows f c (row ∷ rows) h =
     (λ there. let l = from_rows f c rows there in (l.0, later row rows l.0 l.1, l.2))
     (Contains-append_cases (f (import_coord row)) (reached_by_rows f rows) c h)
 
-into_rows : (f : Coord → List Coord) (c : Coord) (rows : List DepRecord) (row : DepRecord) → Contains rows row
+pub into_rows : (f : Coord → List Coord) (c : Coord) (rows : List DepRecord) (row : DepRecord) → Contains rows row
     → Contains (f (import_coord row)) c → Contains (reached_by_rows f rows) c
 into_rows f c [] row m h = absurd (none row m)
 into_rows f c (one ∷ rows) row m h =
@@ -160,7 +160,7 @@ module _ (known : Known) (repos : ℕ) where
   built_from left chain c h = unmet (is_among c chain) (ImportCycle (chain ++ c ∷ [])) (unmet_from left chain) c h
 
   -- what a list that is built reaches stands apart from the chain
-  apart : (left : ℕ) (chain : List Coord) (c : Coord) → IsBuilt (managed_from known repos left chain c)
+  pub apart : (left : ℕ) (chain : List Coord) (c : Coord) → IsBuilt (managed_from known repos left chain c)
       → IsApart (reached known repos left c) chain
   apart zero chain c h one m = absurd h
   apart (suc left) chain c h one m =
@@ -184,7 +184,7 @@ module _ (known : Known) (repos : ℕ) where
 
   -- A list that is built behind some chain is the same with more levels, and behind every chain without the projects
   -- that it reaches.
-  alike : (levels : ℕ) (chain : List Coord) (c : Coord) → IsBuilt (managed_from known repos levels chain c)
+  pub alike : (levels : ℕ) (chain : List Coord) (c : Coord) → IsBuilt (managed_from known repos levels chain c)
       → (left : ℕ) (other : List Coord) → levels ≤ left → IsApart (reached known repos levels c) other
       → managed_from known repos left other c ≡ managed_from known repos levels chain c
   alike zero chain c h left other le clear = absurd h
@@ -220,7 +220,7 @@ module _ (known : Known) (repos : ℕ) where
       by (NotFound why) built clear ih = tt
       by (Refused fault) built clear ih = tt
 
-  is_built : (u : Outcome (List DepRecord)) (rows : List DepRecord) → u ≡ Built rows → IsBuilt u
+  pub is_built : (u : Outcome (List DepRecord)) (rows : List DepRecord) → u ≡ Built rows → IsBuilt u
   is_built u rows e = subst IsBuilt (sym e) tt
 
   pub kept_gives : (c : Coord) (rows : List DepRecord) (levels : ℕ) (coords : List Coord)

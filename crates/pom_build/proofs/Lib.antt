@@ -2,10 +2,14 @@ pub mod BuildGrows
 pub mod BuildReads
 pub mod Chains
 pub mod Climbing
+pub mod Coords
 pub mod Fields
 pub mod Found
+pub mod Kept
+pub mod KeyLemmas
 pub mod KeysGrow
 pub mod KeysSame
 pub mod Members
+pub mod Needed
 pub mod Told
 pub mod Valued

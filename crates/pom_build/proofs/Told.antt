@@ -29,7 +29,7 @@ use Rattle.pom_build.specs.Effectives.{effective_in, effective_of}
 use Rattle.pom_build.specs.Imports.{import_coord, is_import, import_all, imported, managed_rows, managed_with, managed_from, merged, past_chain, with_key}
 use Rattle.pom_build.specs.Lines.{is_among, is_on, with_parent, on_parent, on_look, climbed, line_from, past_limit, started, line_of}
 use Rattle.pom_build.specs.NeededKeys.{IsOpen, IsPomKey, needed_by}
-use Rattle.pom_build.specs.Outcomes.{and_then, build_of, unless_met}
+use Rattle.pom_build.specs.Outcomes.{and_then, build_of, needs, unless_met}
 use Rattle.pom_build.specs.declared.build.Build.TheVariants as builds
 use Rattle.pom_build.specs.Projects.{project_of}
 use Rattle.pom_build.specs.Reads.{behind_tried, behind_reading, keys_from, look_keys, behind_look, of_next, unless_seen, parent_keys, line_keys, keys_of_all, import_keys, managed_keys, effective_keys}
@@ -58,7 +58,7 @@ same_role roles.Artifact roles.Pom e = absurd (true≢false (sym e))
 same_role roles.Artifact roles.Listing e = absurd (true≢false (sym e))
 same_role roles.Artifact roles.Artifact e = refl
 
-same_key : (a b : FileKey) → key_eq a b ≡ true → a ≡ b
+pub same_key : (a b : FileKey) → key_eq a b ≡ true → a ≡ b
 same_key a b e =
     let parts = both (nat_eq a.repo b.repo && text_eq a.path b.path) (role_eq a.role b.role) e in
     let firsts = both (nat_eq a.repo b.repo) (text_eq a.path b.path) parts.0 in
@@ -67,7 +67,7 @@ same_key a b e =
     let role : a.role ≡ b.role = same_role a.role b.role parts.1 in
     ap (λ n. key_of n a.role a.path) repo ∙ ap (λ one. key_of b.repo one a.path) role ∙ ap (key_of b.repo b.role) path
 
-equal_keys : IsEquivalence key_eq
+pub equal_keys : IsEquivalence key_eq
 equal_keys = search (comparing, rules)
 
 -- keys put one by one, each once
@@ -100,11 +100,11 @@ distinct_with_key keys key d = at (list_any (key_eq key) keys) refl
     at true e = d
     at false e = IsDistinct-push equal_keys keys key d e
 
-before_fold : (keys more : List FileKey) (one : FileKey) → Contains keys one → Contains (fold with_key keys more) one
+pub before_fold : (keys more : List FileKey) (one : FileKey) → Contains keys one → Contains (fold with_key keys more) one
 before_fold keys [] one h = h
 before_fold keys (key ∷ more) one h = before_fold (with_key keys key) more one (in_with_key keys key one h)
 
-in_fold : (keys more : List FileKey) (one : FileKey) → Contains more one → Contains (fold with_key keys more) one
+pub in_fold : (keys more : List FileKey) (one : FileKey) → Contains more one → Contains (fold with_key keys more) one
 in_fold keys [] one h = absurd (none one h)
 in_fold keys (key ∷ more) one h =
     ⊎_elim (λ is. before_fold (with_key keys key) more one (subst (Contains (with_key keys key)) is (itself_with_key keys key)))
@@ -131,12 +131,6 @@ some_of : (keys : List FileKey) (key : FileKey) → Contains keys key → 0 < le
 some_of keys key h = omega (arith, h.1)
 
 -- what is said of a part, where these keys were looked at
-
-abbrev pub needs : {A : Type 0} → Outcome A → List FileKey
-needs (Built part) = []
-needs (Needs keys) = keys
-needs (NotFound why) = []
-needs (Refused fault) = []
 
 abbrev pub HasReasons : ℕ → BuildFault → Type 0
 HasReasons repos (ParentCycle path) = Unit {0}
@@ -287,7 +281,7 @@ module _ (known : Known) (repos : ℕ) where
       (told_on_look (look_of known repos c) line c (look_keys known repos c) (λ repo pom. parent_keys known repos left (with_parent line (project_of c repo pom)) pom.parent) (line_from known repos left)
       (λ repo pom. told_line_from left (with_parent line (project_of c repo pom)) pom.parent) (told_look c)))
 
-  told_line : (c : Coord) → IsTold known repos (line_keys known repos c) (line_of known repos c)
+  pub told_line : (c : Coord) → IsTold known repos (line_keys known repos c) (line_of known repos c)
   unfolding line_of
   told_line c =
       told_started (look_of known repos c) c (look_keys known repos c) (λ repo pom. parent_keys known repos 31 (record { own = project_of c repo pom; parents = [] }) pom.parent) (line_from known repos 31)
@@ -377,7 +371,7 @@ module _ (known : Known) (repos : ℕ) where
       subst (λ all. IsTold known repos all (import_all k (merged so_far (k (import_coord row))) rows)) (append_assoc looked (keys (import_coord row)) (keys_of_all keys rows))
       (told_imports keys k ih rows (looked ++ keys (import_coord row)) (merged so_far (k (import_coord row))) (told_merged looked (keys (import_coord row)) so_far (k (import_coord row)) h (ih (import_coord row))))
 
-  told_managed_with : (keys : Coord → List FileKey) (k : Coord → Outcome (List DepRecord)) → ((c : Coord) → IsTold known repos (keys c) (k c)) → (line : Line) → IsTold known repos (import_keys keys (Built line)) (managed_with k line)
+  pub told_managed_with : (keys : Coord → List FileKey) (k : Coord → Outcome (List DepRecord)) → ((c : Coord) → IsTold known repos (keys c) (k c)) → (line : Line) → IsTold known repos (import_keys keys (Built line)) (managed_with k line)
   told_managed_with keys k ih line =
       told_imports keys k ih (filter is_import (managed_rows line)) [] (Built (filter (λ row. not (is_import row)) (managed_rows line))) (told_nothing (Built (filter (λ row. not (is_import row)) (managed_rows line))) refl tt)
 
@@ -395,7 +389,7 @@ module _ (known : Known) (repos : ℕ) where
   told_on_imported looked keys c (NotFound why) k ih h = told_end {A = Line} looked (NotFound why) (Refused (LineAbsent c why)) refl h.sound h
   told_on_imported looked keys c (Refused fault) k ih h = told_end {A = Line} looked (Refused fault) (Refused fault) refl h.sound h
 
-  told_managed_from : (left : ℕ) (chain : List Coord) (c : Coord) → IsTold known repos (managed_keys known repos left chain c) (managed_from known repos left chain c)
+  pub told_managed_from : (left : ℕ) (chain : List Coord) (c : Coord) → IsTold known repos (managed_keys known repos left chain c) (managed_from known repos left chain c)
   told_managed_from zero chain c = past_sound (is_among c chain) _ _ tt tt
   told_managed_from (suc left) chain c =
       told_unless (is_among c chain) _ tt _ c (λ one. and_then (imported one (line_of known repos one)) (managed_with (managed_from known repos left (chain ++ one ∷ []))))

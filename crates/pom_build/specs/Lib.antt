@@ -1,9 +1,10 @@
 pub mod Climbs
+pub mod CoordTables
 pub mod Effectives
 pub mod Filling
 pub mod FoundProjects
-pub mod Gathers
 pub mod Imports
+pub mod KeyLists
 pub mod Lines
 pub mod Names
 pub mod NeededKeys
@@ -13,3 +14,5 @@ pub mod Puts
 pub mod Reached
 pub mod Reads
 pub mod Rows
+pub mod Tries
+pub mod Visits

@@ -1,6 +1,8 @@
 -- What comes of building, and of a part of it.
-use Rattle.std.specs.Prelude.{Bool, true, false}
+use Rattle.std.specs.Prelude.{Bool, true, false, List, [], ◌∷◌}
 use Rattle.res_base.specs.declared.coord.Coord.{Coord}
+use Rattle.res_base.specs.declared.key.FileKey.{FileKey}
+use Rattle.res_base.specs.declared.pom.DepRecord.{DepRecord}
 use Rattle.pom_build.specs.declared.build.Build.{Build}
 use Rattle.pom_build.specs.declared.build.Build.TheVariants as builds
 use Rattle.pom_build.specs.declared.build.BuildFault.{BuildFault}
@@ -26,6 +28,18 @@ waits (Built part) = false
 waits (Needs keys) = true
 waits (NotFound why) = false
 waits (Refused fault) = false
+
+-- the keys that are needed to say more
+abbrev pub needs : {A : Type 0} → Outcome A → List FileKey
+needs (Built part) = []
+needs (Needs keys) = keys
+needs (NotFound why) = []
+needs (Refused fault) = []
+
+-- keys that are needed come before a fault
+abbrev pub needs_or : List FileKey → BuildFault → Outcome (List DepRecord)
+needs_or [] fault = Refused fault
+needs_or (key ∷ keys) fault = Needs (key ∷ keys)
 
 abbrev pub build_of : Outcome Effective → Build
 build_of (Built project) = builds.Built project

@@ -121,15 +121,6 @@ fn by_managed(
     }
 }
 
-/// The chain of imports that begins with a project.
-fn chain_of(alloc: Global, coord: &Coord) -> Result<List<Coord>, NoMemory>
-    ensures { IfOk result (λ made. made ≡ coord.now ∷ []) }
-{
-    let mut chain: List<Coord> = List::new(alloc);
-    chain.push(coord.copy(alloc)?)?;
-    Ok(chain)
-}
-
 /// The project with a line, where a chain of imports may have so many projects behind it.
 fn by_line(
     alloc: Global,
@@ -141,8 +132,7 @@ fn by_line(
     ensures { IfOk result (λ made. made ≡ build_of (and_then (rows_with (managed_from (known_of known.now.pairs) known.now.repos most (coord.now ∷ [])) line.entry) (λ rows. Outcome.Built (effective_in line.entry rows)))) }
 {
     let named = NamedLine::of(alloc, line)?;
-    let chain = chain_of(alloc, coord)?;
-    let managed = managed_with(alloc, known, most, &chain, &named)?;
+    let managed = managed_with(alloc, known, most, coord, &named)?;
     by_managed(alloc, &named, managed)
 }
 

@@ -1,19 +1,21 @@
 //! The managed rows of a project, and of those that it imports.
-ghost use Rattle.std.specs.Prelude.{◌≡◌, ◌∷◌, [], ◌++◌, not, filter, IfOk};
-ghost use Rattle.pom_build.specs.Gathers.{gathered};
-ghost use Rattle.pom_build.specs.Imports.{import_all, imported as imported_line, is_import as import_test, managed_from as rows_from, managed_rows as all_managed_rows, managed_with as rows_with, past_chain as past_the_chain};
-ghost use Rattle.pom_build.specs.Lines.{line_of as line_of_coord};
-ghost use Rattle.pom_build.specs.Outcomes.{and_then};
+ghost use Rattle.std.specs.Prelude.{◌≡◌, ◌<◌, ◌≤◌, ◌-◌, ◌^◌, ◌∷◌, [], ◌++◌, suc, true, false, not, filter, min, max, is_some, IfOk, IfSome, None, OnOk};
+ghost use Rattle.pom_build.specs.Imports.{import_coord as coord_of_import, is_import as import_test, managed_from as rows_from, managed_rows as all_managed_rows, managed_with as rows_with, past_chain as past_the_chain};
+ghost use Rattle.pom_build.specs.Lines.{is_among as among, line_of as line_of_coord};
+ghost use Rattle.pom_build.specs.Outcomes.{needs_or};
+ghost use Rattle.pom_build.specs.Tries.{IsGathered, IsPut, IsReady, IsTried, kept_at};
+ghost use Rattle.row_lists.specs.RowLists.{with_imported};
 ghost use Rattle.res_base.specs.Known.{known_of};
 
 use super::build::BuildFault;
 use super::filled::managed_rows;
-use super::gather::{Gathered, gather, outcome_of};
 use super::line::{Line, is_among, line_of};
+use super::memo::{Kept, Memo};
 use super::names::NamedLine;
+use super::needs::needed_keys;
 use super::outcome::Outcome;
 use project_lookup::Known;
-use res_base::{Coord, Copied, DepRecord, List, NoMemory};
+use res_base::{Coord, Copied, DepRecord, FileKey, List, NoMemory};
 use row_lists::{RowTable, row_laws};
 use std::alloc::Global;
 
@@ -63,13 +65,13 @@ fn split_rows(alloc: Global, all: List<DepRecord>) -> Result<Split, NoMemory>
 
 /// A project's own managed rows as a table, with its imports by themselves.
 #[derive(Drop)]
-struct OwnRows {
-    table: RowTable,
-    imports: List<DepRecord>,
+pub(crate) struct OwnRows {
+    pub table: RowTable,
+    pub imports: List<DepRecord>,
 }
 
 #[tactic(auto, unfolding(crate::specs::Imports::managed_rows))]
-fn own_rows(alloc: Global, named: &NamedLine<'_>) -> Result<OwnRows, NoMemory>
+pub(crate) fn own_rows(alloc: Global, named: &NamedLine<'_>) -> Result<OwnRows, NoMemory>
     ensures rows { IfOk result (λ made. made.table ≡ filter (λ row. not (import_test row)) (all_managed_rows named.now)) }
     ensures imports { IfOk result (λ made. made.imports ≡ filter import_test (all_managed_rows named.now)) }
 {
@@ -80,141 +82,275 @@ fn own_rows(alloc: Global, named: &NamedLine<'_>) -> Result<OwnRows, NoMemory>
 }
 
 /// The coordinates of a chain, and then another.
-fn chain_to(alloc: Global, chain: &List<Coord>, coord: Coord) -> Result<List<Coord>, NoMemory>
-    ensures { IfOk result (λ made. made ≡ chain.now ++ coord ∷ []) }
+pub(crate) fn chain_to(
+    alloc: Global,
+    chain: &List<Coord>,
+    coord: &Coord,
+) -> Result<List<Coord>, NoMemory>
+    ensures { IfOk result (λ made. made ≡ chain.now ++ coord.now ∷ []) }
 {
     let mut longer = chain.copy(alloc)?;
-    longer.push(coord)?;
+    longer.push(coord.copy(alloc)?)?;
     Ok(longer)
 }
 
+/// The coordinate that a row imports.
+pub(crate) fn import_coord(alloc: Global, row: &DepRecord) -> Result<Coord, NoMemory>
+    ensures { IfOk result (λ made. made ≡ coord_of_import row.now) }
+{
+    Ok(Coord {
+        module: row.module.copy(alloc)?,
+        version: row.version.copy(alloc)?,
+    })
+}
+
+/// What comes of building a managed list: it is built, or a fault comes first of all that is known,
+/// or keys are needed first.
+#[derive(Drop)]
+pub(crate) enum Tried<T> {
+    Built(T),
+    Fault(BuildFault),
+    Wanting,
+}
+
+/// Rows, and with how many levels they can be gathered.
+#[derive(Drop)]
+pub(crate) struct Sum {
+    pub table: RowTable,
+    pub levels: u32,
+}
+
 /// What is said of an import that the chain has, or that is one too many.
-fn past_chain(
-    alloc: Global,
-    chain: &List<Coord>,
-    coord: Coord,
-) -> Result<Outcome<List<DepRecord>>, NoMemory>
-    ensures { IfOk result (λ made. made ≡ past_the_chain chain.now coord) }
+fn past_chain(alloc: Global, chain: &List<Coord>, coord: &Coord) -> Result<BuildFault, NoMemory>
+    ensures { IfOk result (λ fault. Outcome.Refused fault ≡ past_the_chain chain.now coord.now) }
 {
-    let met = is_among(&coord, chain.as_slice());
     let path = chain_to(alloc, chain, coord)?;
-    if met {
-        return Ok(Outcome::Refused(BuildFault::ImportCycle(path)));
+    if is_among(coord, chain.as_slice()) {
+        return Ok(BuildFault::ImportCycle(path));
     }
-    Ok(Outcome::Refused(BuildFault::TooDeep(path)))
+    Ok(BuildFault::TooDeep(path))
 }
 
-/// The list of the rows, where they are built.
-fn listed_rows(outcome: Outcome<RowTable>) -> Outcome<List<DepRecord>>
-    ensures { result ≡ outcome }
+/// A sum with the managed list of one more import, which is in the memo.
+fn with_kept(sum: Sum, memo: &Memo, coord: &Coord, left: u32) -> Result<Sum, NoMemory>
+    requires { is_some (kept_at memo.now coord.now) ≡ true }
+    ensures rows { IfOk result (λ made. IfSome (kept_at memo.now coord.now) (λ kept. made.table ≡ with_imported sum.table kept.rows)) }
+    ensures levels { IfOk result (λ made. IfSome (kept_at memo.now coord.now) (λ kept. made.levels ≡ max sum.levels (min kept.levels left))) }
 {
-    match outcome {
-        Outcome::Built(table) => Outcome::Built(table.into_rows()),
-        Outcome::Needs(keys) => Outcome::Needs(keys),
-        Outcome::NotFound(why) => Outcome::NotFound(why),
-        Outcome::Refused(fault) => Outcome::Refused(fault),
-    }
-}
-
-/// Gathers what imports manage, where the chain ends with the project that imports them and may
-/// have so many projects more.
-#[cycle(imports)]
-fn gather_all(
-    alloc: Global,
-    known: &Known,
-    left: u32,
-    chain: &List<Coord>,
-    start: Gathered,
-    imports: &[DepRecord],
-) -> Result<Gathered, NoMemory>
-    ensures { IfOk result (λ made. gathered made ≡ import_all (rows_from (known_of known.now.pairs) known.now.repos left chain.now) (gathered start) imports.now) }
-{
-    let mut so_far = start;
-    for import in imports {
-        let coord = Coord {
-            module: import.module.copy(alloc)?,
-            version: import.version.copy(alloc)?,
-        };
-        let next = managed_from(alloc, known, left, chain, coord)?;
-        so_far = gather(alloc, so_far, next)?;
-    }
-    Ok(so_far)
-}
-
-/// The managed rows of a project and of what it imports, where the chain ends with the project and
-/// may have so many projects more.
-#[cycle(imports)]
-pub(crate) fn managed_with(
-    alloc: Global,
-    known: &Known,
-    left: u32,
-    chain: &List<Coord>,
-    named: &NamedLine<'_>,
-) -> Result<Outcome<RowTable>, NoMemory>
-    ensures { IfOk result (λ made. made ≡ rows_with (rows_from (known_of known.now.pairs) known.now.repos left chain.now) named.now) }
-{
-    let own = own_rows(alloc, named)?;
-    let start = Gathered::Rows(own.table);
-    let gathered = gather_all(alloc, known, left, chain, start, own.imports.as_slice())?;
-    outcome_of(alloc, gathered)
-}
-
-/// The managed list of a project with a line, behind a chain of others.
-#[cycle(imports)]
-fn managed_by_line(
-    alloc: Global,
-    known: &Known,
-    left: u32,
-    chain: &List<Coord>,
-    line: Line<'_>,
-) -> Result<Outcome<List<DepRecord>>, NoMemory>
-    ensures { IfOk result (λ made. made ≡ rows_with (rows_from (known_of known.now.pairs) known.now.repos left chain.now) line.entry) }
-{
-    let named = NamedLine::of(alloc, line)?;
-    let rows = managed_with(alloc, known, left, chain, &named)?;
-    Ok(listed_rows(rows))
-}
-
-/// The managed list of a project that the chain does not have.
-#[cycle(imports)]
-fn managed_of(
-    alloc: Global,
-    known: &Known,
-    left: u32,
-    chain: &List<Coord>,
-    coord: Coord,
-) -> Result<Outcome<List<DepRecord>>, NoMemory>
-    ensures { IfOk result (λ made. made ≡ and_then (imported_line coord (line_of_coord (known_of known.now.pairs) known.now.repos coord)) (rows_with (rows_from (known_of known.now.pairs) known.now.repos left (chain.now ++ coord ∷ [])))) }
-{
-    match line_of(alloc, known, &coord)? {
-        Outcome::Needs(keys) => Ok(Outcome::Needs(keys)),
-        Outcome::NotFound(why) => Ok(Outcome::Refused(BuildFault::LineAbsent(coord, why))),
-        Outcome::Refused(fault) => Ok(Outcome::Refused(fault)),
-        Outcome::Built(line) => {
-            let longer = chain_to(alloc, chain, coord)?;
-            managed_by_line(alloc, known, left, &longer, line)
+    match memo.at(coord) {
+        None => unreachable!(),
+        Some(kept) => {
+            let table = sum.table.with_copies(kept.rows.as_slice())?;
+            let levels = sum.levels.max(kept.levels.min(left));
+            Ok(Sum { table, levels })
         }
     }
 }
 
-/// The managed list of a project that is imported behind a chain of others, which may have so many
-/// projects more.
+/// Gathers what imports manage, where the chain ends with the project that imports them and may
+/// have so many projects more. It stops at the first that is not built.
 #[cycle(imports)]
-fn managed_from(
+fn gather(
     alloc: Global,
     known: &Known,
     left: u32,
     chain: &List<Coord>,
-    coord: Coord,
-) -> Result<Outcome<List<DepRecord>>, NoMemory>
-    ensures { IfOk result (λ made. made ≡ rows_from (known_of known.now.pairs) known.now.repos left chain.now coord) }
+    table: RowTable,
+    imports: &[DepRecord],
+    memo: &mut Memo,
+) -> Result<Tried<Sum>, NoMemory>
+    requires { IsReady (known_of known.now.pairs) known.now.repos chain.now memo.old }
+    ensures { IfOk result (λ tried. IsGathered (known_of known.now.pairs) known.now.repos left chain.now table imports.now memo.old tried memo.new) }
+{
+    let mut sum = Sum { table, levels: 0 };
+    for import in imports {
+        let coord = import_coord(alloc, import)?;
+        match try_from(alloc, known, left, chain, &coord, memo)? {
+            Tried::Built(()) => sum = with_kept(sum, memo, &coord, left)?,
+            Tried::Fault(fault) => return Ok(Tried::Fault(fault)),
+            Tried::Wanting => return Ok(Tried::Wanting),
+        }
+    }
+    Ok(Tried::Built(sum))
+}
+
+/// Puts the managed list of a project into the memo.
+fn keep(alloc: Global, memo: &mut Memo, coord: &Coord, sum: Sum) -> Result<(), NoMemory>
+    requires { sum.levels < 2 ^ 32 - 1 }
+    ensures { OnOk result (IsPut memo.old coord.now (record { rows = sum.table; levels = suc sum.levels }) memo.new) }
+{
+    let kept = Kept {
+        rows: sum.table.into_rows(),
+        levels: sum.levels + 1,
+    };
+    memo.kept.insert(coord.copy(alloc)?, kept)?;
+    Ok(())
+}
+
+/// Tries a project with a line, which the chain does not have and the memo neither.
+#[cycle(imports)]
+fn by_line(
+    alloc: Global,
+    known: &Known,
+    left: u32,
+    chain: &List<Coord>,
+    coord: &Coord,
+    line: Line<'_>,
+    memo: &mut Memo,
+) -> Result<Tried<()>, NoMemory>
+    requires ready { IsReady (known_of known.now.pairs) known.now.repos chain.now memo.old }
+    requires apart { among coord.now chain.now ≡ false }
+    requires new { kept_at memo.old coord.now ≡ None }
+    requires line { line_of_coord (known_of known.now.pairs) known.now.repos coord.now ≡ Outcome.Built line }
+    requires few { left < 2 ^ 32 - 1 }
+    ensures { IfOk result (λ tried. IsTried (known_of known.now.pairs) known.now.repos (suc left) chain.now coord.now memo.old tried memo.new) }
+{
+    let named = NamedLine::of(alloc, line)?;
+    let OwnRows { table, imports } = own_rows(alloc, &named)?;
+    let longer = chain_to(alloc, chain, coord)?;
+    match gather(alloc, known, left, &longer, table, imports.as_slice(), memo)? {
+        Tried::Fault(fault) => Ok(Tried::Fault(fault)),
+        Tried::Wanting => Ok(Tried::Wanting),
+        Tried::Built(sum) => {
+            keep(alloc, memo, coord, sum)?;
+            Ok(Tried::Built(()))
+        }
+    }
+}
+
+/// Tries a project that the chain does not have and the memo neither.
+#[cycle(imports)]
+fn expand(
+    alloc: Global,
+    known: &Known,
+    left: u32,
+    chain: &List<Coord>,
+    coord: &Coord,
+    memo: &mut Memo,
+) -> Result<Tried<()>, NoMemory>
+    requires ready { IsReady (known_of known.now.pairs) known.now.repos chain.now memo.old }
+    requires apart { among coord.now chain.now ≡ false }
+    requires new { kept_at memo.old coord.now ≡ None }
+    requires some { 0 < left }
+    ensures { IfOk result (λ tried. IsTried (known_of known.now.pairs) known.now.repos left chain.now coord.now memo.old tried memo.new) }
+{
+    match line_of(alloc, known, coord)? {
+        Outcome::Needs(_) => Ok(Tried::Wanting),
+        Outcome::NotFound(why) => {
+            let coord = coord.copy(alloc)?;
+            Ok(Tried::Fault(BuildFault::LineAbsent(coord, why)))
+        }
+        Outcome::Refused(fault) => Ok(Tried::Fault(fault)),
+        Outcome::Built(line) => by_line(alloc, known, left - 1, chain, coord, line, memo),
+    }
+}
+
+/// Tries a project whose list is kept, but takes more levels than are left. It is looked at as if
+/// nothing was kept, up to its fault.
+#[cycle(imports)]
+fn too_high(
+    alloc: Global,
+    known: &Known,
+    left: u32,
+    chain: &List<Coord>,
+    coord: &Coord,
+    memo: &Memo,
+) -> Result<Tried<()>, NoMemory>
+    requires ready { IsReady (known_of known.now.pairs) known.now.repos chain.now memo.now }
+    requires apart { among coord.now chain.now ≡ false }
+    requires kept { IfSome (kept_at memo.now coord.now) (λ one. left ≤ one.levels) }
+    requires there { is_some (kept_at memo.now coord.now) ≡ true }
+    requires some { 0 < left }
+    ensures { IfOk result (λ tried. IsTried (known_of known.now.pairs) known.now.repos left chain.now coord.now memo.now tried memo.now) }
+{
+    let mut fresh = Memo::new(alloc);
+    expand(alloc, known, left, chain, coord, &mut fresh)
+}
+
+/// Tries a project that is imported behind a chain of others, which may have so many projects more.
+/// A list that is kept is not built again.
+#[cycle(imports)]
+fn try_from(
+    alloc: Global,
+    known: &Known,
+    left: u32,
+    chain: &List<Coord>,
+    coord: &Coord,
+    memo: &mut Memo,
+) -> Result<Tried<()>, NoMemory>
+    requires { IsReady (known_of known.now.pairs) known.now.repos chain.now memo.old }
+    ensures { IfOk result (λ tried. IsTried (known_of known.now.pairs) known.now.repos left chain.now coord.now memo.old tried memo.new) }
 {
     if left == 0 {
-        return past_chain(alloc, chain, coord);
+        return Ok(Tried::Fault(past_chain(alloc, chain, coord)?));
     }
-    if is_among(&coord, chain.as_slice()) {
-        let path = chain_to(alloc, chain, coord)?;
-        return Ok(Outcome::Refused(BuildFault::ImportCycle(path)));
+    if is_among(coord, chain.as_slice()) {
+        return Ok(Tried::Fault(past_chain(alloc, chain, coord)?));
     }
-    managed_of(alloc, known, left - 1, chain, coord)
+    match memo.levels(coord) {
+        None => expand(alloc, known, left, chain, coord, memo),
+        Some(levels) => {
+            if levels <= left {
+                return Ok(Tried::Built(()));
+            }
+            too_high(alloc, known, left, chain, coord, memo)
+        }
+    }
+}
+
+/// The chain of imports that begins with a project.
+pub(crate) fn chain_of(alloc: Global, coord: &Coord) -> Result<List<Coord>, NoMemory>
+    ensures { IfOk result (λ made. made ≡ coord.now ∷ []) }
+{
+    let mut chain: List<Coord> = List::new(alloc);
+    chain.push(coord.copy(alloc)?)?;
+    Ok(chain)
+}
+
+/// The keys that are needed, or else a fault.
+fn needed_or(keys: List<FileKey>, fault: BuildFault) -> Outcome<RowTable>
+    ensures { result ≡ needs_or keys fault }
+{
+    if keys.is_empty() {
+        return Outcome::Refused(fault);
+    }
+    Outcome::Needs(keys)
+}
+
+/// The managed rows of a project and of what it imports, where a chain of imports may have so many
+/// projects behind the project.
+///
+/// What needs no keys and has no fault is gathered in one go, each list once. Otherwise the keys
+/// that are needed are all looked for first, and the first fault counts where there are none.
+pub(crate) fn managed_with(
+    alloc: Global,
+    known: &Known,
+    left: u32,
+    coord: &Coord,
+    named: &NamedLine<'_>,
+) -> Result<Outcome<RowTable>, NoMemory>
+    ensures { IfOk result (λ made. made ≡ rows_with (rows_from (known_of known.now.pairs) known.now.repos left (coord.now ∷ [])) named.now) }
+{
+    let OwnRows { table, imports } = own_rows(alloc, named)?;
+    let chain = chain_of(alloc, coord)?;
+    let mut memo = Memo::new(alloc);
+    match gather(
+        alloc,
+        known,
+        left,
+        &chain,
+        table,
+        imports.as_slice(),
+        &mut memo,
+    )? {
+        Tried::Built(sum) => Ok(Outcome::Built(sum.table)),
+        Tried::Fault(fault) => {
+            let keys = needed_keys(alloc, known, left, coord, imports.as_slice())?;
+            Ok(needed_or(keys, fault))
+        }
+        Tried::Wanting => {
+            let keys = needed_keys(alloc, known, left, coord, imports.as_slice())?;
+            Ok(Outcome::Needs(keys))
+        }
+    }
 }

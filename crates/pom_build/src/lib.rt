@@ -5,14 +5,14 @@
 mod build;
 mod effectives;
 mod filled;
-mod gather;
 mod imports;
+mod key_list;
 mod laws;
 mod line;
+mod memo;
 mod names;
+mod needs;
 mod outcome;
-#[cfg(test)]
-mod tests;
 
 pub use build::{Build, BuildFault, Effective};
 pub use effectives::effective;

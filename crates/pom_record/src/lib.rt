@@ -9,8 +9,6 @@ mod pom_err;
 mod project;
 mod properties;
 mod read;
-#[cfg(test)]
-mod tests;
 
 pub use laws::reading_laws;
 pub use pom_err::PomErr;

@@ -11,8 +11,6 @@ mod references;
 mod scans;
 mod tables;
 mod tags;
-#[cfg(test)]
-mod tests;
 mod texts;
 mod tree;
 

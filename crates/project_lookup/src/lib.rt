@@ -4,8 +4,6 @@
 mod known;
 mod laws;
 mod looks;
-#[cfg(test)]
-mod tests;
 
 pub use known::{InsertErr, Known};
 pub use laws::{listing_laws, look_laws};

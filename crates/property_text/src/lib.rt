@@ -5,8 +5,6 @@ mod cuts;
 mod fill;
 mod holes;
 mod laws;
-#[cfg(test)]
-mod tests;
 mod values;
 
 pub use fill::CutValues;

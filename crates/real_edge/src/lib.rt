@@ -1,14 +1,15 @@
-//! The real outside: folders as links, the system's clock, and the standard streams as sinks.
+//! The real outside: servers and folders as links, the system's clock, and the standard streams as
+//! sinks.
 #![tactic(auto)]
 
+mod folder_link;
 mod folders;
 mod pieces;
 mod real_clock;
 mod real_link;
 mod real_sink;
-#[cfg(test)]
-mod tests;
 
 pub use real_clock::RealClock;
 pub use real_link::RealLink;
 pub use real_sink::RealSink;
+pub use tcp_wire::TcpWire;

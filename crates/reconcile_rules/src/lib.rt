@@ -9,8 +9,6 @@ mod laws;
 mod relaxed;
 mod request;
 mod rules;
-#[cfg(test)]
-mod tests;
 
 pub use laws::{
     apart_exactly, choices_stay, greatest_version, least_pair, longest_rest, unforced_versions,

@@ -1,3 +1,5 @@
+pub mod GoingOn
+pub mod NumberTables
 pub mod Below
 pub mod Decided
 pub mod Retaken

@@ -1,5 +1,5 @@
 -- How rounds end, told by the rounds that were done.
-use Rattle.std.specs.Prelude.{◌≡◌, ℕ, ◌+◌, ◌<◌, true, List}
+use Rattle.std.specs.Prelude.{◌≡◌, ℕ, ◌+◌, ◌<◌, ◌≤◌, true, List}
 use Rattle.res_base.specs.Known.{Known}
 use Rattle.res_base.specs.declared.key.FileKey.{FileKey}
 use Rattle.resolution.specs.declared.ask.Ask.{Ask}
@@ -21,3 +21,8 @@ pub data IsEnding (known : Known) (ask : Ask) : Progress → Type 0 where
       → round_of known ask chosen ≡ Next later → choices_eq chosen later.rows ≡ true
       → IsEnding known ask (Over (verdict_of known ask (done + 1) chosen))
   stops : {chosen : List ChoiceRow} → Did known ask ask.rounds chosen → IsEnding known ask (Over (Unsettled ask.rounds))
+
+-- so many rounds were done, which may be, and gave these choices
+pub record Waited (known : Known) (ask : Ask) (round : ℕ) (chosen : List ChoiceRow) : Type 0 where
+  pub did : Did known ask round chosen
+  pub few : round ≤ ask.rounds

@@ -1,5 +1,5 @@
 //! Laws of rounds, as functions with nothing to run.
-ghost use Rattle.std.specs.Prelude.{◌≡◌, ◌<◌, ℕ, List, true, None, length, Contains};
+ghost use Rattle.std.specs.Prelude.{◌≡◌, ◌<◌, ℕ, List, Option, true, None, length, Contains};
 ghost use Rattle.std.specs.List.{list_any};
 ghost use Rattle.pom_build.specs.Reads.{Agree};
 ghost use Rattle.res_base.specs.Known.{Known, Grows};
@@ -16,12 +16,14 @@ ghost use Rattle.resolution.specs.declared.progress.RoundAnswer.TheVariants.{Nex
 ghost use Rattle.resolution.specs.declared.progress.Walk.TheVariants.{Requests};
 ghost use Rattle.resolution.specs.declared.verdict.Verdict.{Verdict};
 ghost use Rattle.round_core.specs.Choices.{Rises, modules_of};
+ghost use Rattle.round_core.specs.Earlier.{AreLasting};
 ghost use Rattle.round_core.specs.Edges.{last_ones};
-ghost use Rattle.round_core.specs.Endings.{IsEnding};
+ghost use Rattle.round_core.specs.Endings.{IsEnding, Waited};
 ghost use Rattle.round_core.specs.Reads.{is_over, needed_of, needs_in, reads_of};
 ghost use Rattle.round_core.specs.Requests.{asks_for, requests_at, row_for, rows_modules};
 ghost use Rattle.round_core.specs.Rounds.{Did, round_of, rounds_of, walk_of};
 ghost use Rattle.round_core.specs.Tables.{has};
+ghost use Rattle.round_core.specs.declared.projects.ChosenProject.{ChosenProject};
 
 use exclusion_sets::{join_laws, within_laws};
 use pom_build::{answer_laws, build_laws, read_laws};
@@ -126,4 +128,19 @@ pub fn settled_laws()
         rounds_of known ask ≡ Over verdict → IfSettled verdict (HasRepositories ask.repos) }
 {
     answer_laws();
+}
+
+/// Where rounds waited, they can go on: over more knowledge the rounds before were done as well,
+/// and a project that was built and waits for nothing is what it was.
+pub fn standing_laws()
+    ensures waited { (known : Known) (ask : Ask) (round : ℕ) (choices : Choices) (needs : List FileKey) →
+        rounds_of known ask ≡ Waiting round choices needs → Waited known ask round choices.rows }
+    ensures waits { (before after : Known) (ask : Ask) (round : ℕ) (chosen : List ChoiceRow) →
+        Grows before after → Waited before ask round chosen → Waited after ask round chosen }
+    ensures lasting { (before after : Known) (repos : ℕ) (projects : List (Option ChosenProject)) →
+        Grows before after → AreLasting before repos projects → AreLasting after repos projects }
+{
+    build_laws();
+    growth_laws();
+    ending_laws();
 }

@@ -15,18 +15,20 @@ mod reach;
 mod request_key;
 mod request_list;
 mod requests;
+mod resumed;
 mod rounds;
 mod row_key;
 mod steer;
-#[cfg(test)]
-mod tests;
 mod verdict;
 
 pub use artifact_files::artifacts;
-pub use laws::{ending_laws, growth_laws, look_laws, request_laws, settled_laws, wait_laws};
+pub use laws::{
+    ending_laws, growth_laws, look_laws, request_laws, settled_laws, standing_laws, wait_laws,
+};
 pub use one_round::{round, walk};
 pub use resolution::{
     Ask, Choice, ChoiceRow, Choices, ClashRow, Edge, FaultRow, Node, Progress, ProjectFault,
     RequestRow, RoundAnswer, Settled, Verdict, Walk,
 };
+pub use resumed::{BuiltProjects, rounds_on};
 pub use rounds::rounds_plain;

@@ -14,7 +14,7 @@ use pom_build::Build;
 use res_base::{FileKey, List, NoMemory};
 use std::alloc::Global;
 
-fn waits_in(project: Option<&ChosenProject>) -> bool
+pub(crate) fn waits_in(project: Option<&ChosenProject>) -> bool
     ensures { result ≡ waiting_test (option_copied project.entry) }
 {
     match project {

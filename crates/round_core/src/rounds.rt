@@ -139,7 +139,7 @@ fn turn_over(
 }
 
 /// One round, after so many others. What it builds is kept for the next one.
-fn take_turn<L: Ledger>(
+pub(crate) fn take_turn<L: Ledger>(
     alloc: Global,
     known: &Known,
     ask: &Ask,

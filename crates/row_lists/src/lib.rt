@@ -7,8 +7,6 @@ mod last;
 mod laws;
 mod set;
 mod table;
-#[cfg(test)]
-mod tests;
 
 pub use last::{joined, last_of_key};
 pub use laws::row_laws;

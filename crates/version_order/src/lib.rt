@@ -5,8 +5,6 @@ mod constraint;
 mod item;
 mod qualifiers;
 mod shape;
-#[cfg(test)]
-mod tests;
 mod version;
 
 pub use constraint::{Constraint, ConstraintErr, read_constraint, readings};

@@ -1,7 +1,14 @@
-use Rattle.std.proofs.Common.{◌<◌, length, refl, arith}
+use Rattle.std.proofs.Common.{◌≡◌, ◌<◌, ◌≤◌, ℕ, List, Some, get_or, length, refl, arith, subst, sym}
+use Rattle.std.specs.Prelude.{map, slice_get, string_bytes}
+use Rattle.coursier_run.specs.Justified.{IsJustified, IsWorldOf}
+use Rattle.coursier_run.proofs.FirstLink.{all_first, drop-set_first, first_of, first_set, set_first_same, zip_first}
+use Rattle.coursier_run.proofs.Promised.{answers_refusal, blames_disk, blames_link, blames_wider, has_status, lacks_file, needs_many, prints_verdict, refuses_words, stream_rose}
+use Rattle.coursier_run.proofs.Reasons.{Stays}
+use Rattle.coursier_run.proofs.Wider.{justified_wider}
+use Rattle.job_session.specs.Faithful.{TellsFaithful}
+use Rattle.line_streams.proofs.Endings.{ends_wider}
 use Rattle.link_base.proofs.Kept.{kept_refl}
-use Rattle.coursier_run.proofs.FirstLink.{failed_first, together, all_first, zip_first, drop-set_first, set_first_same, justified_wider, ends_wider}
-use Rattle.coursier_run.proofs.Promised.{has_status, prints_root, refuses_words, blames_link, leaves, stream_rose, answers_refusal, is_complete}
+use Rattle.link_base.specs.Links.{Rows}
 use Rattle.coursier_run.proofs.still.run_still.Goals as goal
 
 pub returns-clause-ends : goal.returns-clause-ends
@@ -9,54 +16,82 @@ returns-clause-ends g c =
     let links = c.args.links.now.items in
     let some : 0 < length links = omega arith in
     let first = c.index_mut.result.now in
-    ends_wider _ _ _ _ _ _ _
-    (λ said justified. justified_wider _ _ _ _ _ said
-    (λ w all. all_first (λ l. g.L.Link.agrees l w) links first some c.index_mut.ensures.value all)
-    (λ url failed.
-    failed_first g.L.Link.faults g.L.Link.failed_urls links first c.run_words_over-status.new.link url some c.index_mut.ensures.value failed)
-    justified)
-    (λ rose. rose)
-    c.run_words_over-status.ensures.ends
+    let V : Rows → Type 0 = λ w. g.L.Link.agrees first w × TellsFaithful g.D.Disk.told w c.args.disk in
+    let W : Rows → Type 0 = IsWorldOf g.L.Link.agrees g.D.Disk.told links c.args.disk in
+    record {
+      before = first;
+      now = c.serve.new.link;
+      was_first = first_of links first some c.index_mut.ensures.value;
+      is_first = first_set links c.serve.new.link some;
+      work = ends_wider _ _ _ _ _ _ _ _ (λ said. justified_wider V W (λ w is. (all_first (λ l. g.L.Link.agrees l w) links first some c.index_mut.ensures.value is.agree, is.faithful)) _ _ said _) (λ rose. rose) (λ rose. rose) c.serve.ensures.ends;
+    }
 
 pub returns-clause-statuses : goal.returns-clause-statuses
-returns-clause-statuses g c = has_status _ _ _ _ _ _ _ (returns-clause-ends g c)
+returns-clause-statuses g c =
+    let stays : Stays = record { rounds = c.verdicts_stay.ensures.rounds; files = c.verdicts_stay.ensures.files; failed = c.stuck_broken.ensures.failed } in
+    has_status stays _ _ _ _ _ _ _ _ (returns-clause-ends g c).work
 
 pub returns-clause-printed : goal.returns-clause-printed
-returns-clause-printed g c = prints_root _ _ _ _ _ _ _ (returns-clause-ends g c)
+returns-clause-printed g c =
+    let stays : Stays = record { rounds = c.verdicts_stay.ensures.rounds; files = c.verdicts_stay.ensures.files; failed = c.stuck_broken.ensures.failed } in
+    prints_verdict stays _ _ _ _ _ _ _ _ (returns-clause-ends g c).work
 
 pub returns-clause-refused : goal.returns-clause-refused
-returns-clause-refused g c = refuses_words _ _ _ _ _ _ _ (returns-clause-ends g c)
+returns-clause-refused g c =
+    let stays : Stays = record { rounds = c.verdicts_stay.ensures.rounds; files = c.verdicts_stay.ensures.files; failed = c.stuck_broken.ensures.failed } in
+    refuses_words stays _ _ _ _ _ _ _ _ (returns-clause-ends g c).work
 
 pub returns-clause-blamed : goal.returns-clause-blamed
-returns-clause-blamed g c = blames_link _ _ _ _ _ _ _ (returns-clause-ends g c)
+returns-clause-blamed g c =
+    let stays : Stays = record { rounds = c.verdicts_stay.ensures.rounds; files = c.verdicts_stay.ensures.files; failed = c.stuck_broken.ensures.failed } in
+    let ends = returns-clause-ends g c in
+    λ at.
+    blames_wider _ _ _ _
+    (λ rose. record { before = ends.before; now = ends.now; was_first = ends.was_first; is_first = ends.is_first; rose = rose })
+    (blames_link stays _ _ _ _ _ _ _ _ ends.work at)
+
+pub returns-clause-disk_failed : goal.returns-clause-disk_failed
+returns-clause-disk_failed g c =
+    let stays : Stays = record { rounds = c.verdicts_stay.ensures.rounds; files = c.verdicts_stay.ensures.files; failed = c.stuck_broken.ensures.failed } in
+    blames_disk stays _ _ _ _ _ _ _ _ (returns-clause-ends g c).work
 
 pub returns-clause-stream_failed : goal.returns-clause-stream_failed
-returns-clause-stream_failed g c = stream_rose _ _ _ _ _ _ _ (returns-clause-ends g c)
+returns-clause-stream_failed g c =
+    let stays : Stays = record { rounds = c.verdicts_stay.ensures.rounds; files = c.verdicts_stay.ensures.files; failed = c.stuck_broken.ensures.failed } in
+    stream_rose stays _ _ _ _ _ _ _ _ (returns-clause-ends g c).work
 
-pub returns-clause-left : goal.returns-clause-left
-returns-clause-left g c = leaves _ _ _ _ _ _ _ (returns-clause-ends g c)
+pub returns-clause-lacking : goal.returns-clause-lacking
+returns-clause-lacking g c =
+    let stays : Stays = record { rounds = c.verdicts_stay.ensures.rounds; files = c.verdicts_stay.ensures.files; failed = c.stuck_broken.ensures.failed } in
+    lacks_file stays _ _ _ _ _ _ _ _ (returns-clause-ends g c).work
+
+pub returns-clause-many : goal.returns-clause-many
+returns-clause-many g c =
+    let stays : Stays = record { rounds = c.verdicts_stay.ensures.rounds; files = c.verdicts_stay.ensures.files; failed = c.stuck_broken.ensures.failed } in
+    needs_many stays _ _ _ _ _ _ _ _ (returns-clause-ends g c).work
 
 pub returns-clause-refusal : goal.returns-clause-refusal
-returns-clause-refusal g c = answers_refusal _ _ _ _ _ _ _ (returns-clause-ends g c)
+returns-clause-refusal g c =
+    let stays : Stays = record { rounds = c.verdicts_stay.ensures.rounds; files = c.verdicts_stay.ensures.files; failed = c.stuck_broken.ensures.failed } in
+    answers_refusal stays _ _ _ _ _ _ _ _ (returns-clause-ends g c).work
 
 pub returns-clause-untouched : goal.returns-clause-untouched
 returns-clause-untouched g c = λ kind place bad.
-    let same = c.run_words_over-status.ensures.untouched kind place bad in
+    let same = c.serve.ensures.untouched kind place bad in
     let some : 0 < length c.args.links.now.items = omega arith in
-    (set_first_same _ c.index_mut.result.now _ some c.index_mut.ensures.value same.0, same.1, refl)
-
-pub returns-clause-complete : goal.returns-clause-complete
-returns-clause-complete g c = λ links_calm out_calm err_calm. is_complete _ _ _ _ _ _ _ (λ url first. links_calm (together g.L.Link.faults g.L.Link.failed_urls c.args.links.now.items c.run_words_over-status.new.link url first)) out_calm err_calm (returns-clause-ends g c)
+    (set_first_same _ c.index_mut.result.now _ some c.index_mut.ensures.value same.0, same.1, same.2)
 
 pub returns-clause-kept : goal.returns-clause-kept
 returns-clause-kept g c =
     let some : 0 < length c.args.links.now.items = omega arith in
-    zip_first _ (kept_refl g.L.Link.agrees g.L.Link.faults g.L.Link.asked g.L.Link.failed_urls) c.args.links.now.items c.index_mut.result.now _ some c.index_mut.ensures.value c.run_words_over-status.ensures.kept
-
-pub returns-clause-asked : goal.returns-clause-asked
-returns-clause-asked g c =
-    let some : 0 < length c.args.links.now.items = omega arith in
-    zip_first _ (λ l. omega arith) c.args.links.now.items c.index_mut.result.now _ some c.index_mut.ensures.value c.run_words_over-status.ensures.asked
+    zip_first _ (kept_refl g.L.Link.agrees g.L.Link.faults g.L.Link.asked g.L.Link.failed_urls) c.args.links.now.items
+    c.index_mut.result.now _ some c.index_mut.ensures.value c.serve.ensures.kept
 
 pub returns-clause-first_alone : goal.returns-clause-first_alone
 returns-clause-first_alone g c = drop-set_first c.args.links.now.items _
+
+pub returns-clause-faithful : goal.returns-clause-faithful
+returns-clause-faithful g c = λ w is.
+    let some : 0 < length c.args.links.now.items = omega arith in
+    c.serve.ensures.faithful w
+    (all_first (λ l. g.L.Link.agrees l w) c.args.links.now.items c.index_mut.result.now some c.index_mut.ensures.value is.agree)

@@ -15,8 +15,7 @@ returns c =
     let known = known_of c.args.known.now.pairs in
     let repos = c.args.known.now.repos in
     let managed : List Coord → Line → Outcome (List DepRecord) = λ chain line. managed_with (managed_from known repos c.args.most chain) line in
-    let chain : c.in_ok-chain.chain ≡ c.args.coord.now ∷ [] = c.in_ok-chain.ensures in
     let line : c.in_ok-named.named ≡ c.args.line = c.in_ok-named.ensures in
-    let rows : c.in_ok-managed.managed ≡ managed (c.args.coord.now ∷ []) c.args.line = c.in_ok-managed.ensures ∙ ap (λ chain. managed chain c.in_ok-named.named) chain ∙ ap (managed (c.args.coord.now ∷ [])) line in
+    let rows : c.in_ok-managed.managed ≡ managed (c.args.coord.now ∷ []) c.args.line = c.in_ok-managed.ensures ∙ ap (managed (c.args.coord.now ∷ [])) line in
     subst (λ outcome. IfOk c.by_managed.result (λ made. made ≡ build_of (and_then outcome (λ rows. Built (effective_in c.args.line rows))))) rows
     (subst (λ line. IfOk c.by_managed.result (λ made. made ≡ build_of (and_then c.in_ok-managed.managed (λ rows. Built (effective_in line rows))))) line c.by_managed.ensures)

@@ -43,7 +43,7 @@ note-requires c =
 pub invariant_of-self : goal.invariant_of-self
 invariant_of-self c =
     let core = c.self.inside in
-    kept_moved core.ask core.settings core.log core.progress core.agenda core.caught_up c.next_claim.new.agenda c.self.invariant
+    kept_moved core.ask core.settings core.log core.progress core.built core.agenda core.caught_up c.next_claim.new.agenda c.self.invariant
     (c.agenda_laws.ensures.moved core.settings (resolver_of core.ask) core.log.history core.agenda c.next_claim.new.agenda
     (c.self.invariant.agenda (ap (λ (s : State). s.caught_up) c.self.view_is ∙ c.requires)) c.next_claim.ensures.kept
     c.next_claim.ensures.need_queue c.next_claim.ensures.hint_queue)
@@ -58,8 +58,8 @@ invariant_of-self-in_err-note c =
     let moved : IsAgenda core.settings r h c.next_claim.new.agenda =
     c.agenda_laws.ensures.moved core.settings r h core.agenda c.next_claim.new.agenda agenda c.next_claim.ensures.kept
     c.next_claim.ensures.need_queue c.next_claim.ensures.hint_queue in
-    subst (λ (log : Log). IsKept core.ask core.settings log core.progress c.next_claim.new.agenda core.caught_up) (sym c.in_err-note.ensures.err)
-    (kept_moved core.ask core.settings core.log core.progress core.agenda core.caught_up c.next_claim.new.agenda c.self.invariant moved)
+    subst (λ (log : Log). IsKept core.ask core.settings log core.progress core.built c.next_claim.new.agenda core.caught_up) (sym c.in_err-note.ensures.err)
+    (kept_moved core.ask core.settings core.log core.progress core.built core.agenda core.caught_up c.next_claim.new.agenda c.self.invariant moved)
 
 pub invariant_of-self-2 : goal.invariant_of-self-2
 invariant_of-self-2 c =
@@ -73,14 +73,15 @@ invariant_of-self-2 c =
     c.next_claim.ensures.need_queue c.next_claim.ensures.hint_queue in
     let answered : c.in_ok-answer.answer ≡ claim_of core.settings r h =
     c.in_ok-answer.ensures.answer ∙ c.agenda_laws.ensures.answer core.settings r h core.agenda agenda in
-    let kept : IsKept core.ask core.settings core.log core.progress core.agenda true =
-    subst (λ b. IsKept core.ask core.settings core.log core.progress core.agenda b) up c.self.invariant in
-    let after : IsKept core.ask core.settings (log_after core.log c.args.seat c.in_ok-answer.answer) core.progress c.next_claim.new.agenda true =
-    kept_after core.ask core.settings core.log core.progress core.agenda
-    (λ h e legal may. c.legal_histories.ensures.more core.settings r h e legal may) c.args.seat kept c.next_claim.new.agenda moved
+    let kept : IsKept core.ask core.settings core.log core.progress core.built core.agenda true =
+    subst (λ b. IsKept core.ask core.settings core.log core.progress core.built core.agenda b) up c.self.invariant in
+    let after : IsKept core.ask core.settings (log_after core.log c.args.seat c.in_ok-answer.answer) core.progress core.built c.next_claim.new.agenda true =
+    kept_after core.ask core.settings core.log core.progress core.built core.agenda
+    (λ h e legal may. c.legal_histories.ensures.more core.settings r h e legal may)
+    (λ e stood. c.rounds_stand.ensures.grows core.ask core.log.history e core.progress core.built stood) c.args.seat kept c.next_claim.new.agenda moved
     (λ key. c.agenda_laws.ensures.claimed core.settings r h c.next_claim.new.agenda c.args.seat key moved) c.in_ok-answer.answer (sym answered) in
-    subst (λ b. IsKept core.ask core.settings c.note.new.log core.progress c.next_claim.new.agenda b) (sym up)
-    (subst (λ (log : Log). IsKept core.ask core.settings log core.progress c.next_claim.new.agenda true) (sym c.in_ok-note.ensures.ok) after)
+    subst (λ b. IsKept core.ask core.settings c.note.new.log core.progress core.built c.next_claim.new.agenda b) (sym up)
+    (subst (λ (log : Log). IsKept core.ask core.settings log core.progress core.built c.next_claim.new.agenda true) (sym c.in_ok-note.ensures.ok) after)
 
 pub returns-clause-answer : goal.returns-clause-answer
 returns-clause-answer c =

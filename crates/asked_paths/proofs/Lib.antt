@@ -1,0 +1,3 @@
+-- The paths that rounds ask for.
+mod Asked
+mod Paths

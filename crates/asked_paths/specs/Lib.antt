@@ -1,0 +1,2 @@
+-- Files of repositories.
+pub mod Files

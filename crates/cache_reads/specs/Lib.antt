@@ -1,0 +1,5 @@
+pub mod Finds
+pub mod Measuring
+pub mod Pieces
+pub mod Reads
+pub mod Upgrades

@@ -1,0 +1,12 @@
+pub mod AfterReads
+pub mod CallNames
+pub mod Changed
+pub mod Contents
+pub mod Found
+pub mod Images
+pub mod Opens
+pub mod Published
+pub mod Slots
+pub mod Stood
+pub mod Tells
+pub mod Upgrades

@@ -1,0 +1,11 @@
+pub mod Bound
+pub mod Causes
+pub mod Clears
+pub mod Contents
+pub mod Kept
+pub mod Opened
+pub mod Parts
+pub mod SealNames
+pub mod Stands
+pub mod Upgrades
+pub mod Wanted

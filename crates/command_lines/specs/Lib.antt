@@ -1,0 +1,4 @@
+-- What a command prints.
+pub mod Refusals
+pub mod Rendered
+pub mod Rows

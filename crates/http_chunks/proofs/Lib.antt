@@ -1,0 +1,10 @@
+pub mod Alive
+pub mod Laws
+pub mod Limits
+pub mod Lines
+pub mod Places
+pub mod Rests
+pub mod Rows
+pub mod Steps
+pub mod Tests
+pub mod Trailers

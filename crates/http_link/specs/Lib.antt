@@ -1,0 +1,11 @@
+pub mod Agreement
+pub mod Answers
+pub mod Ends
+pub mod Faults
+pub mod Gots
+pub mod Hearing
+pub mod MemoryWires
+pub mod Openings
+pub mod Readings
+pub mod Visited
+pub mod Wires

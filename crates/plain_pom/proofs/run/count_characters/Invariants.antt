@@ -1,7 +1,0 @@
-use Rattle.std.proofs.Common.{◌≡◌, true, take}
-use Rattle.std.specs.List.{list_all}
-use Rattle.plain_pom.specs.PlainTree.{is_character}
-use Rattle.plain_pom.proofs.run.count_characters.Given as goal
-
-abbrev pub invariant-loop-i : goal.invariant-loop-i
-invariant-loop-i l = list_all is_character (take l.i l.bytes) ≡ true

@@ -1,0 +1,2 @@
+-- What a session that was worked through comes to.
+pub mod Outcomes

@@ -1,0 +1,9 @@
+//! Whole runs of the store over disks in memory.
+#![tactic(auto)]
+
+#[cfg(test)]
+mod refusals;
+#[cfg(test)]
+mod runs;
+#[cfg(test)]
+mod stops;

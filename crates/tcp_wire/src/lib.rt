@@ -1,0 +1,7 @@
+//! Connections of the system over TCP.
+#![tactic(auto)]
+
+mod authorities;
+mod wire;
+
+pub use wire::TcpWire;

@@ -1,0 +1,2 @@
+-- Addresses and reasons, pair by pair.
+mod Pairs
