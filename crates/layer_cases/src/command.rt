@@ -5,6 +5,8 @@ ghost use Rattle.case_words.specs.Words.{IsOneLine};
 use cache_cases::{decisions, names, records};
 use case_words::case_error::CaseError;
 use case_words::words::pieces_of;
+use face_cases::{jobs, samples};
+use print_cases::{files, printed};
 use project_cases::{effectives, lookups, poms, trees};
 use round_cases::{artifacts, rounds};
 use std::alloc::{AllocError, Global};
@@ -49,6 +51,12 @@ fn answer_words(alloc: Global, words: &[&str]) -> Result<String, CaseError> {
         "reply" => replies::reply(alloc, fields),
         "reply-cut" => replies::reply_cut(alloc, fields),
         "visit" => visits::visit(alloc, fields),
+        "words" => jobs::words(alloc, fields),
+        "sample" => samples::sample(alloc, fields),
+        "sample-line" => samples::sample_line(alloc, fields),
+        "tree-text" => printed::tree_text(alloc, fields),
+        "report" => printed::report(alloc, fields),
+        "classpath" => files::classpath(alloc, fields),
         _ => Err(CaseError::OutOfForm),
     }
 }

@@ -1,0 +1,6 @@
+//! Commands of tables of cases over what is printed.
+#![tactic(auto)]
+
+mod conditions;
+pub mod files;
+pub mod printed;
