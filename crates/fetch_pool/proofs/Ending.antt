@@ -1,6 +1,5 @@
 -- Claims of a batch end one after the other; where the work ends, those that are left are given back.
-use Rattle.std.proofs.Common.{◌≡◌, ◌≤◌, ◌+◌, ℕ, List, [], ◌∷◌, Option, Some, None, refl, sym, ◌∙◌, ap, subst, arith, length, drop}
-use Rattle.std.proofs.Math.ListN.{drop_of_length-le}
+use Rattle.std.proofs.Common.{◌≡◌, ◌≤◌, ◌+◌, ℕ, List, Option, None, sym, ◌∙◌, ap, subst, arith}
 use Rattle.cache_store.specs.Stands.{disk_of}
 use Rattle.cache_store.specs.declared.store.Store.{Store}
 use Rattle.claim_rules.specs.Counts.{is_return}

@@ -1,12 +1,12 @@
 -- Keys that one seat has in flight: one more claim, and one end.
-use Rattle.std.proofs.Common.{◌≡◌, ◌⊎◌, inl, inr, ℕ, ◌<◌, ◌+◌, Bool, true, false, not, ◌&&◌, ◌||◌, List, [], ◌∷◌, ◌++◌, Option, Some, None, refl, sym, ◌∙◌, ap, subst, true≢false, if◌then◌else◌, length, get_or, drop, take, add-one, arith, length-drop, ◌-◌}
+use Rattle.std.proofs.Common.{◌≡◌, inl, inr, ℕ, ◌<◌, ◌+◌, Bool, true, false, not, ◌&&◌, ◌||◌, List, [], ◌∷◌, ◌++◌, Option, Some, None, refl, sym, ◌∙◌, ap, subst, true≢false, if◌then◌else◌, length, get_or, drop, take, add-one, arith, length-drop, ◌-◌}
 use Rattle.std.proofs.Math.Seq.{drop-cons, take-suc}
 use Rattle.std.proofs.lemmas.List.{take_all}
 use Rattle.std.proofs.lemmas.List.Folds.{list_any-append}
 use Rattle.std.specs.Option.{is_some}
 use Rattle.claim_rules.proofs.BaseLaws.{Decided, key_itself, same_key}
 use Rattle.claim_rules.proofs.EntryLemmas.{holder_more, other_holder, own_end}
-use Rattle.claim_rules.specs.Claims.{IsAnswer, IsHintClaim, IsNeedClaim, claim_of}
+use Rattle.claim_rules.specs.Claims.{IsAnswer}
 use Rattle.claim_rules.specs.Counts.{is_broken, is_claim}
 use Rattle.claim_rules.specs.Histories.{What, claim, arrive, broke, give_back, History, any_in_flight, holder, holder_after, in_flight, is_seat, key_in, known_in, unless_ended}
 use Rattle.claim_rules.specs.Resolvers.{Resolver}

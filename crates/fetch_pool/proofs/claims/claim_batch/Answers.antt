@@ -1,4 +1,4 @@
-use Rattle.std.proofs.Common.{◌≡◌, ◌<◌, ℕ, [], ◌∷◌, ◌++◌, List, refl, sym, ap, subst, ◌∙◌, arith, length, length-append}
+use Rattle.std.proofs.Common.{◌≡◌, ◌<◌, ℕ, [], ◌∷◌, ◌++◌, List, sym, ap, subst, ◌∙◌, arith, length, length-append}
 use Rattle.arrival_core.specs.Resolving.{resolver_of}
 use Rattle.claim_rules.specs.Claims.{claim_of}
 use Rattle.claim_rules.specs.Histories.{History, claim}

@@ -1,14 +1,11 @@
-use Rattle.std.proofs.Common.{◌≡◌, ◌≤◌, ◌+◌, ◌<◌, List, [], ◌∷◌, None, Some, refl, sym, ap, subst, ◌∙◌, drop, take, arith, length, ◌-◌}
-use Rattle.std.proofs.Math.ListN.{drop_of_length-le}
-use Rattle.std.proofs.Math.Seq.{drop-cons}
+use Rattle.std.proofs.Common.{◌+◌, List, ◌∷◌, refl, sym, subst, ◌∙◌, drop, take, arith, length, ◌-◌}
 use Rattle.cache_store.specs.Stands.{disk_of}
-use Rattle.cache_store.specs.declared.store.Store.{Store}
 use Rattle.claim_rules.specs.Histories.{give_back}
-use Rattle.fetch_pool.proofs.Batching.{Steps, ends_most, ends_none}
+use Rattle.fetch_pool.proofs.Batching.{Steps, ends_none}
 use Rattle.fetch_pool.proofs.Ending.{all_back, all_on, all_stopped, goes_on_so}
-use Rattle.fetch_pool.proofs.Flights.{all_landed, all_left, due_less, first_held, first_left}
+use Rattle.fetch_pool.proofs.Flights.{all_left, due_less, first_held, first_left}
 use Rattle.fetch_pool.proofs.Keeping.{kept_each, kept_on, kept_same}
-use Rattle.fetch_pool.specs.Boards.{IsIdle, desk_of}
+use Rattle.fetch_pool.specs.Boards.{desk_of}
 use Rattle.fetch_pool.specs.Flights.{AreDue, OnlyFlying}
 use Rattle.file_fetch.specs.Keys.{CanAsk}
 use Rattle.pool_rules.specs.Counts.{counts_of}
