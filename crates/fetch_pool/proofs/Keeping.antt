@@ -1,5 +1,5 @@
 -- What is kept is kept on.
-use Rattle.std.proofs.Common.{true≢false, ◌≡◌, ◌≤◌, ◌⊎◌, inl, inr, ℕ, List, [], ◌++◌, Option, Some, None, refl, sym, ◌∙◌, ap, subst, arith, append_assoc, append-nil, true}
+use Rattle.std.proofs.Common.{true≢false, ◌≡◌, ◌≤◌, ◌⊎◌, inl, inr, ℕ, List, [], ◌++◌, Option, Some, None, refl, sym, ◌∙◌, ap, subst, arith, append_assoc, append-nil, true, false}
 use Rattle.std.specs.Prelude.{IsSome}
 use Rattle.std.specs.Option.{option_map}
 use Rattle.cache_images.specs.Sound.{IsFaithful, IsSound}
@@ -7,20 +7,25 @@ use Rattle.cache_policy.specs.declared.Decision.TheVariants.{Unavailable}
 use Rattle.cache_policy.specs.declared.Mode.TheVariants.{Offline}
 use Rattle.cache_store.specs.Stands.{disk_of}
 use Rattle.cache_store.specs.declared.store.Store.{Store}
-use Rattle.claim_rules.specs.Counts.{is_lacking}
+use Rattle.claim_rules.specs.Counts.{is_lack, is_lacking}
+use Rattle.claim_rules.specs.Histories.{What, History, pair_in}
 use Rattle.disk_base.specs.Images.{Image, IsImageOf}
 use Rattle.disk_base.specs.Names.{Names, read_name}
 use Rattle.disk_base.specs.Runs.{Keeps}
+use Rattle.fetch_pool.proofs.Batching.{lacks_each, true_each}
 use Rattle.fetch_pool.specs.Boards.{IsSameBoard, desk_of}
+use Rattle.fetch_pool.specs.Flights.{with_each}
 use Rattle.fetch_pool.specs.Turns.{AllNow, Kept, LacksOnly, TellsNames}
 use Rattle.fetch_pool.specs.declared.board.Board.{Board}
 use Rattle.file_fetch.specs.Decided.{decided_in}
 use Rattle.file_fetch.specs.Worlds.{IsFaithfulTo}
 use Rattle.link_base.specs.Links.{FailedLonger, LinkKept, Rows}
 use Rattle.pool_rules.specs.Boards.{Desk}
-use Rattle.pool_rules.specs.Works.{IsSameJob}
+use Rattle.pool_rules.specs.Works.{IsSameJob, with_entry}
 use Rattle.pool_rules.specs.Worlds.{StaysTrue, whole_of}
 use Rattle.pool_rules.specs.declared.plan.Plan.{Plan}
+use Rattle.res_base.specs.Known.{Known}
+use Rattle.res_base.specs.declared.key.FileKey.{FileKey}
 
 module _ {D : Type 0} (told : D → Option Names) (moment : D → ℕ) (since : D → ℕ → Image → Type 0) where
   pub keeps_same : (P : Image → Type 0) (a : D) → Keeps told moment since P a a
@@ -135,6 +140,19 @@ module _ {L D : Type 0} (agrees : L → Rows → Type 0) (faults asked : L → �
       stays : (P : Image → Type 0) → Keeps told moment since P (disk_of a.store) (disk_of b.store)
       stays P = subst (λ (s : Store D). Keeps told moment since P (disk_of a.store) (disk_of s)) (sym same.store)
           (keeps_same told moment since P (disk_of a.store))
+
+  -- where claims were made, or given back, for all of these keys
+  pub kept_each : ((all : Known) (h : History) (seat : ℕ) (what : What) → pair_in what ≡ [] → StaysTrue all h (with_entry h seat what))
+      → (seat : ℕ) (what : FileKey → What) → ((key : FileKey) → pair_in (what key) ≡ [])
+      → ((key : FileKey) → is_lack (what key) ≡ false) → (a b : Board D) (l : L) (keys : List FileKey) → IsSameBoard a b
+      → b.core.history ≡ with_each a.core.history seat what keys
+      → Kept agrees faults asked failed told moment since a b l l
+  kept_each others seat what none held a b l keys same history =
+      kept_by a b l same
+      (λ w. subst (λ h. StaysTrue (whole_of a.plan w) a.core.history h) (sym history)
+      (true_each seat what others none (whole_of a.plan w) a.core.history keys))
+      (subst (λ h. LacksOnly a.plan (told (disk_of a.store)) a.core.history h) (sym history)
+      (lacks_each seat what held a.plan (told (disk_of a.store)) a.core.history keys))
 
   pub kept_same : (a : Board D) (l : L) → Kept agrees faults asked failed told moment since a a l l
   kept_same a l = kept_by a a l (record { ask = refl; settings = refl; plan = refl; store = refl; rows = refl }) (λ w g. g) (λ s at key is. inl is)

@@ -1,4 +1,7 @@
 -- Lemmas of boards.
+pub mod Batching
+pub mod Ending
+pub mod Flights
 pub mod Keeping
 pub mod Lacking
 pub mod Settling

@@ -1,14 +1,15 @@
 -- What the end of a claim costs, and how it ends the work.
-use Rattle.std.proofs.Common.{◌≡◌, ◌≢◌, ℕ, Bool, true, [], Option, Some, None, Result, Ok, Err, refl, sym, ◌∙◌, ap, subst, false}
+use Rattle.std.proofs.Common.{◌≡◌, ◌≢◌, ◌≤◌, ℕ, Bool, true, [], Option, Some, None, Result, Ok, Err, refl, sym, ◌∙◌, ap, subst, false}
 use Rattle.std.specs.Prelude.{IsErrOf, IsSome}
 use Rattle.cache_policy.specs.declared.Mode.TheVariants.{Offline}
 use Rattle.claim_rules.specs.Counts.{is_return}
 use Rattle.claim_rules.specs.Histories.{What, History, arrive, pair_in}
 use Rattle.claim_rules.specs.Resolvers.{Resolver}
-use Rattle.fetch_pool.specs.Ends.{MayEnd, taken, what_of}
+use Rattle.fetch_pool.specs.Ends.{EndsBy, MayEnd, taken, what_of}
 use Rattle.file_fetch.specs.Causes.{Failing, HasDiskFault, HasLinkFault, IsLiveAfter, UnlessEnded, failure}
 use Rattle.file_fetch.specs.declared.errors.GetErr.{GetErr}
 use Rattle.file_fetch.specs.declared.errors.GetErr.TheVariants.{Link, NotCached, Disk, NoMemory}
+use Rattle.pool_rules.proofs.Counting.{rose_on}
 use Rattle.pool_rules.specs.Boards.{Desk}
 use Rattle.pool_rules.specs.Counts.{Counts}
 use Rattle.pool_rules.specs.Ends.{IsFinish}
@@ -106,24 +107,38 @@ some_same x o y one two = some_injective (sym one ∙ two)
 is_some : {A : Type 0} (x : A) (o : Option A) → o ≡ Some x → IsSome o
 is_some x o is = subst (λ o. IsSome o) (sym is) refl
 
-module _ {V : Type 0} (r : Resolver V) (desk : Desk) (plan : Plan) (key : FileKey) (before now : Counts) where
+module _ (ended : Option EndCause) (plan : Plan) (key : FileKey) (before now : Counts) where
   -- want of memory
-  by_memory : (finish : Option Finish) → finish ≡ Some finishes.Memory → desk.ended ≡ Some causes.Memory → (f : Finish) → finish ≡ Some f
-      → IsFinish r desk before now f × IsSome desk.ended
-  by_memory finish is ended f one = (
-    subst (λ x. IsFinish r desk before now x) (some_same finishes.Memory finish f is one) ended,
-    is_some causes.Memory desk.ended ended,
-  )
+  by_memory : (finish : Option Finish) → finish ≡ Some finishes.Memory → ended ≡ Some causes.Memory → (f : Finish) → finish ≡ Some f
+      → EndsBy ended before now f
+  by_memory finish is gone f one = subst (λ x. EndsBy ended before now x) (some_same finishes.Memory finish f is one) gone
 
-  pub finish_of : (got : Got) (finish : Option Finish) → Fetched plan key before now got → MayEnd got finish desk.ended
-      → (f : Finish) → finish ≡ Some f → IsFinish r desk before now f × IsSome desk.ended
-  finish_of (Ok reading) None is may f one = none_some None f refl one
-  finish_of (Ok reading) (Some g) is may f one = by_memory (Some g) (ap Some may.0) may.1 f one
-  finish_of (Err Link) finish is may f one = none_some finish f may.0 one
-  finish_of (Err NotCached) finish is may f one = none_some finish f may.0 one
-  finish_of (Err (Disk call)) finish is may f one = (
-    subst (λ x. IsFinish r desk before now x) (some_same (finishes.Disk call) finish f may.0 one)
-        (is.disk.rose call refl, is.disk.last_call call refl, may.1),
-    is_some (causes.Disk call) desk.ended may.1,
-  )
-  finish_of (Err NoMemory) finish is may f one = by_memory finish may.0 may.1 f one
+  pub ends_by : (got : Got) (finish : Option Finish) → Fetched plan key before now got → MayEnd got finish ended
+      → (f : Finish) → finish ≡ Some f → EndsBy ended before now f
+  ends_by (Ok reading) None is may f one = none_some None f refl one
+  ends_by (Ok reading) (Some g) is may f one = by_memory (Some g) (ap Some may.0) may.1 f one
+  ends_by (Err Link) finish is may f one = none_some finish f may.0 one
+  ends_by (Err NotCached) finish is may f one = none_some finish f may.0 one
+  ends_by (Err (Disk call)) finish is may f one =
+      subst (λ x. EndsBy ended before now x) (some_same (finishes.Disk call) finish f may.0 one)
+      (is.disk.rose call refl, is.disk.last_call call refl, may.1)
+  ends_by (Err NoMemory) finish is may f one = by_memory finish may.0 may.1 f one
+
+-- the same over counts that were earlier
+pub ends_earlier : (ended : Option EndCause) (one two three : Counts) (finish : Finish) → one.disk_faults ≤ two.disk_faults
+    → EndsBy ended two three finish → EndsBy ended one three finish
+ends_earlier ended one two three finishes.Over le is = is
+ends_earlier ended one two three (finishes.Stuck key why) le is = is
+ends_earlier ended one two three finishes.TooMany le is = is
+ends_earlier ended one two three (finishes.Disk call) le is =
+    (rose_on one.disk_faults two.disk_faults three.disk_faults le is.0, is.1, is.2)
+ends_earlier ended one two three finishes.Memory le is = is
+
+-- so the work on a board is finished, and something ended it
+pub finish_of : {V : Type 0} (r : Resolver V) (desk : Desk) (before now : Counts) (finish : Finish)
+    → EndsBy desk.ended before now finish → IsFinish r desk before now finish × IsSome desk.ended
+finish_of r desk before now finishes.Over is = absurd is
+finish_of r desk before now (finishes.Stuck key why) is = absurd is
+finish_of r desk before now finishes.TooMany is = absurd is
+finish_of r desk before now (finishes.Disk call) is = (is, is_some (causes.Disk call) desk.ended is.2)
+finish_of r desk before now finishes.Memory is = (is, is_some causes.Memory desk.ended is)

@@ -1,31 +1,33 @@
--- A claim, and what ends it, make a turn; and so does an answer without a claim.
-use Rattle.std.proofs.Common.{◌≡◌, ◌≤◌, ◌<◌, ◌+◌, ℕ, Bool, true, false, cond, List, [], ◌∷◌, ◌++◌, Option, Some, None, refl, sym, ◌∙◌, ap, subst, arith, length}
+-- A batch of claims, and their ends, make a turn; and so does an answer without a claim.
+use Rattle.std.proofs.Common.{◌≡◌, ◌≤◌, ◌<◌, ◌+◌, ◌*◌, ◌&&◌, ℕ, Bool, true, false, cond, List, [], ◌∷◌, Option, None, refl, sym, ◌∙◌, ap, subst, arith, length}
 use Rattle.std.specs.Prelude.{IsSome}
-use Rattle.std.proofs.lemmas.List.Sums.{sum_by-append}
+use Rattle.std.proofs.Math.Nat.{add-mul}
+use Rattle.std.proofs.lemmas.List.Sums.{sum_by-cons}
 use Rattle.arrival_core.specs.Resolving.{resolver_of}
 use Rattle.cache_store.specs.Stands.{disk_of}
 use Rattle.cache_store.specs.declared.store.Store.{Store}
-use Rattle.claim_rules.specs.Claims.{claim_of}
-use Rattle.claim_rules.specs.Counts.{claims, is_claim, is_return}
-use Rattle.claim_rules.specs.Histories.{What, claim, Entry, History, any_in_flight}
+use Rattle.claim_rules.specs.Counts.{claims, claims_that, is_claim}
+use Rattle.claim_rules.specs.Histories.{claim, Entry, History, any_in_flight}
 use Rattle.claim_rules.specs.Legal.{Legal, StopsFrom}
 use Rattle.claim_rules.specs.Resolvers.{Resolver}
-use Rattle.claim_rules.specs.declared.claim.Claim.TheVariants as answers
 use Rattle.claim_rules.specs.declared.settings.Settings.{Settings}
 use Rattle.disk_base.specs.declared.disk_errors.DiskCall.{DiskCall}
+use Rattle.fetch_pool.proofs.Batching.{Steps, claims_each, returns_each, stops_each, works_each}
+use Rattle.fetch_pool.proofs.Settling.{finish_of}
 use Rattle.fetch_pool.specs.Boards.{IsSameBoard, desk_of}
 use Rattle.fetch_pool.specs.Claimed.{Answers}
-use Rattle.fetch_pool.specs.Turns.{EndsClaim, IsOneMore, most_claims}
+use Rattle.fetch_pool.specs.Ends.{EndsBy}
+use Rattle.fetch_pool.specs.Flights.{with_each}
+use Rattle.fetch_pool.specs.Turns.{AreMore, EndsSome, GoesOnSo, most_claims}
 use Rattle.fetch_pool.specs.declared.board.Board.{Board}
 use Rattle.pool_rules.specs.Boards.{Desk, IsReady, all_returns}
-use Rattle.pool_rules.specs.Counts.{AreLater, AsksFiles, Counts, counts_of}
+use Rattle.pool_rules.specs.Counts.{Counts, counts_of}
 use Rattle.pool_rules.specs.Ends.{IsFinish, IsWorked}
 use Rattle.pool_rules.specs.Plans.{IsPlanFor, files_in}
-use Rattle.pool_rules.specs.Works.{AddsNothing, AddsTurn, AsksFor, IsEndOf, IsGoing, IsSameJob, Works, by_seat, costs, with_entry, with_turn}
+use Rattle.pool_rules.specs.Works.{AddsNothing, AsksFor, IsGoing, IsSameJob, Works}
 use Rattle.pool_rules.specs.Worlds.{StaysTrue}
 use Rattle.pool_rules.specs.declared.finish.Finish.{Finish}
 use Rattle.pool_rules.specs.declared.finish.Finish.TheVariants as finishes
-use Rattle.pool_rules.specs.declared.plan.Plan.{Plan}
 use Rattle.res_base.specs.Known.{Known}
 use Rattle.res_base.specs.declared.key.FileKey.{FileKey}
 use Rattle.resolution.specs.declared.ask.Ask.{Ask}
@@ -33,90 +35,77 @@ use Rattle.resolution.specs.declared.verdict.Verdict.{Verdict}
 
 -- what the rules of work say
 pub record Laws : Type 0 where
-  pub turns : (old new : Desk) (before now : Counts) (seat : ℕ) (key : FileKey) (what : What) → AddsTurn old new seat key what
-      → AreLater old.plan before now → costs old.plan what before now → Works old new before now
-  pub nothing : (old new : Desk) (before now : Counts) → AddsNothing old new → AreLater old.plan before now
-      → Works old new before now
-  pub same : (plan : Plan) (counts : Counts) → AreLater plan counts counts
-  pub lands : (h : History) (seat : ℕ) (key : FileKey) (what : What) → IsEndOf key what → any_in_flight h ≡ false
-      → any_in_flight (with_turn h seat key what) ≡ false
-  pub stops : (h : History) (seat : ℕ) (key : FileKey) (what : What) → IsEndOf key what
-      → StopsFrom (length h) (with_turn h seat key what)
-  pub kept : (h : History) (seat : ℕ) (key : FileKey) (what : What) → is_return what ≡ false
-      → all_returns (with_turn h seat key what) ≡ all_returns h
+  pub steps : Steps
   pub waits : (h : History) → StopsFrom (length h) h
   pub answered : (r : Resolver Verdict) (old new : Desk) (before now : Counts) (finish : Finish) → IsGoing old new before now
       → Legal new.settings r new.history → IsFinish r new before now finish → IsWorked r old new before now finish
-  pub asks_turn : (may : FileKey → Bool) (old new : Desk) (before now : Counts) (seat : ℕ) (key : FileKey) (what : What)
-      → AddsTurn old new seat key what → AsksFiles (may key) old.plan before now → AsksFor may old new before now
   pub asks_nothing : (may : FileKey → Bool) (old new : Desk) (before now : Counts) → AddsNothing old new
       → now.asked ≤ before.asked → AsksFor may old new before now
 
-abbrev pub Rooms : Type 0
-Rooms = (s : Settings) (ask : Ask) (h : History) (key : FileKey) → claim_of s (resolver_of ask) h ≡ answers.Claimed key
-    → claims h < most_claims s
+-- the claims of keys of which each passes are all claims
+all_claims : (h : History) → claims_that (λ one. true) h ≡ claims h
+all_claims [] = refl
+all_claims (e ∷ h) =
+    sum_by-cons (λ (x : Entry). cond (is_claim x.what && true) 1 0) e h
+    ∙ (ap (λ b. cond b 1 0 + claims_that (λ one. true) h) (and_true (is_claim e.what))
+    ∙ ap (λ n. cond (is_claim e.what) 1 0 + n) (all_claims h))
+    ∙ sym (sum_by-cons (λ (x : Entry). cond (is_claim x.what) 1 0) e h)
+  where
+    and_true : (b : Bool) → (b && true) ≡ b
+    and_true true = refl
+    and_true false = refl
 
-counted : (h : History) (e : Entry) → claims (h ++ e ∷ []) ≡ claims h + cond (is_claim e.what) 1 0
-counted h e =
-    let sum : claims (h ++ e ∷ []) ≡ claims h + (0 + cond (is_claim e.what) 1 0) =
-    sum_by-append (λ (x : Entry). cond (is_claim x.what) 1 0) h (e ∷ []) in
-    omega (arith, sum)
+module _ (laws : Laws) (old mid new : Desk) (seat : ℕ) (keys : List FileKey) (before now : Counts)
+    (first : IsSameJob old mid) (claimed : mid.history ≡ with_each old.history seat (λ key. claim key) keys)
+    (ends : EndsSome mid new before now (length keys)) where
+  pub batch_works : Works old new before now
+  batch_works =
+      laws.steps.on old mid new before before now
+      (works_each seat (λ key. claim key) laws.steps old mid before keys (λ key. tt) first claimed) ends.works
 
-one_claim : (h : History) (seat : ℕ) (key : FileKey) (what : What) → is_claim what ≡ false
-    → claims (with_turn h seat key what) ≡ claims h + 1
-one_claim h seat key what end =
-    let first : claims (with_entry h seat (claim key)) ≡ claims h + 1 = counted h (by_seat seat (claim key)) in
-    let second : claims (with_turn h seat key what) ≡ claims (with_entry h seat (claim key)) + 0 =
-    counted (with_entry h seat (claim key)) (by_seat seat what) ∙ ap (λ b. claims (with_entry h seat (claim key)) + cond b 1 0) end in
-    omega (arith, first, second)
+  counted : claims new.history ≡ claims old.history + length keys
+  counted = ends.same ∙ ap claims claimed ∙ claims_each seat old.history keys
 
-module _ (laws : Laws) (old mid new : Desk) (seat : ℕ) (key : FileKey) (before now : Counts) (finish : Option Finish)
-    (r : Resolver Verdict) (first : IsSameJob old mid) (second : IsSameJob mid new)
-    (claimed : mid.history ≡ with_entry old.history seat (claim key))
-    (later : AreLater old.plan before now) (ends : EndsClaim r mid new seat key before now finish) where
-  abbrev what : What
-  what = ends.what
+  pub batch_stops : StopsFrom (length old.history) new.history
+  batch_stops =
+      ends.stops (length old.history)
+      (subst (λ h. StopsFrom (length old.history) h) (sym claimed) (stops_each seat old.history keys))
 
-  history : new.history ≡ with_turn old.history seat key ends.what
-  history = ends.history ∙ ap (λ h. with_entry h seat ends.what) claimed
-
-  adds : AddsTurn old new seat key ends.what
-  adds = record {
-    job = record { settings = second.settings ∙ first.settings; plan = second.plan ∙ first.plan };
-    history = history;
-    ends = ends.end;
+  pub batch_going : GoesOnSo mid new → any_in_flight new.history ≡ false → IsGoing old new before now
+  batch_going goes landed = record {
+    works = batch_works;
+    kept = goes.kept ∙ ap all_returns claimed ∙ returns_each seat old.history keys;
+    landed = landed;
+    going = goes.going;
   }
 
-  works : Works old new before now
-  works = laws.turns old new before now seat key ends.what adds later
-      (subst (λ p. costs p ends.what before now) first.plan ends.cost)
-
-  landed : IsReady old → any_in_flight new.history ≡ false
-  landed ready = ap any_in_flight history ∙ laws.lands old.history seat key ends.what ends.end ready.landed
-
-  pub turn_going : IsReady old → finish ≡ None → IsGoing old new before now
-  turn_going ready none = record {
-    works = works;
-    kept = ap all_returns history ∙ laws.kept old.history seat key ends.what (ends.goes none).0;
-    landed = landed ready;
-    going = (ends.goes none).1;
-  }
-
-  pub turn_worked : IsReady old → Legal new.settings r new.history → (f : Finish) → finish ≡ Some f → IsWorked r old new before now f
-  turn_worked ready legal f some = record {
-    works = works;
+  pub batch_worked : (r : Resolver Verdict) → Legal new.settings r new.history → any_in_flight new.history ≡ false
+      → (f : Finish) → EndsBy new.ended before now f → IsWorked r old new before now f
+  batch_worked r legal landed f by = record {
+    works = batch_works;
     legal = legal;
-    landed = landed ready;
-    given = λ back. (ends.stops f some).1;
-    stops = subst (λ h. StopsFrom (length old.history) h) (sym history) (laws.stops old.history seat key ends.what ends.end);
-    ends = (ends.stops f some).0;
+    landed = landed;
+    given = λ back. (finish_of r new before now f by).1;
+    stops = batch_stops;
+    ends = (finish_of r new before now f by).0;
   }
 
-  pub turn_few : now.asked ≤ before.asked + files_in old.plan → AsksFor (λ one. true) old new before now
-  turn_few few = laws.asks_turn (λ one. true) old new before now seat key ends.what adds few
+  pub batch_few : AsksFor (λ one. true) old new before now
+  batch_few =
+      let same_files : files_in mid.plan ≡ files_in old.plan = ap files_in first.plan in
+      let few : now.asked ≤ before.asked + length keys * files_in old.plan =
+      subst (λ k. now.asked ≤ before.asked + length keys * k) same_files ends.few in
+      let more : claims_that (λ one. true) new.history ≡ claims_that (λ one. true) old.history + length keys =
+      all_claims new.history ∙ counted ∙ ap (λ n. n + length keys) (sym (all_claims old.history)) in
+      subst (λ n. now.asked + claims_that (λ one. true) old.history * files_in old.plan ≤ before.asked + n * files_in old.plan)
+      (sym more)
+      (files_more now.asked before.asked (claims_that (λ one. true) old.history) (length keys) (files_in old.plan) few)
+    where
+      files_more : (a b c n k : ℕ) → a ≤ b + n * k → a + c * k ≤ b + (c + n) * k
+      files_more a b c n k le = omega (arith, le, add-mul c n k)
 
-  pub turn_more : claims old.history < most_claims old.settings → IsOneMore old new
-  turn_more room = record { room = room; more = ap claims history ∙ one_claim old.history seat key ends.what ends.end.end }
+  pub batch_more : claims old.history < most_claims old.settings → 0 < length keys → AreMore old new
+  batch_more room some = record { room = room; more = omega (arith, counted, some) }
 
 module _ (laws : Laws) (old new : Desk) (counts : Counts) (r : Resolver Verdict) (job : IsSameJob old new)
     (history : new.history ≡ old.history) (ready : IsReady old) (legal : Legal new.settings r new.history) where
@@ -124,7 +113,7 @@ module _ (laws : Laws) (old new : Desk) (counts : Counts) (r : Resolver Verdict)
   none_adds = record { job = job; history = history }
 
   none_works : Works old new counts counts
-  none_works = laws.nothing old new counts counts none_adds (laws.same old.plan counts)
+  none_works = laws.steps.nothing old new counts counts none_adds (laws.steps.same old.plan counts)
 
   none_landed : any_in_flight new.history ≡ false
   none_landed = ap any_in_flight history ∙ ready.landed
@@ -151,43 +140,44 @@ module _ (laws : Laws) (old new : Desk) (counts : Counts) (r : Resolver Verdict)
 
 -- the same of boards, of a link and of a disk
 module _ {L D : Type 0} (faults asked : L → ℕ) (urls : L → Option (List (List ℕ))) (disk_faults : D → ℕ)
-    (disk_last : D → Option DiskCall) (laws : Laws) (old mid new : Board D) (link after : L) (seat : ℕ) (key : FileKey)
-    (finish : Option Finish) (same : IsSameBoard old mid)
-    (claimed : mid.core.history ≡ with_entry old.core.history seat (claim key)) (ask : new.core.ask ≡ mid.core.ask)
-    (job : IsSameJob (desk_of mid) (desk_of new))
-    (later : AreLater mid.plan (counts_of faults asked urls disk_faults disk_last link (disk_of mid.store))
-    (counts_of faults asked urls disk_faults disk_last after (disk_of new.store)))
-    (ends : EndsClaim (resolver_of mid.core.ask) (desk_of mid) (desk_of new) seat key
-    (counts_of faults asked urls disk_faults disk_last link (disk_of mid.store))
-    (counts_of faults asked urls disk_faults disk_last after (disk_of new.store)) finish)
-    (ready : IsReady (desk_of old)) where
+    (disk_last : D → Option DiskCall) (laws : Laws) (old mid new : Board D) (link after : L) (seat : ℕ) (keys : List FileKey)
+    (same : IsSameBoard old mid)
+    (claimed : mid.core.history ≡ with_each old.core.history seat (λ key. claim key) keys)
+    (ends : EndsSome (desk_of mid) (desk_of new) (counts_of faults asked urls disk_faults disk_last link (disk_of mid.store))
+    (counts_of faults asked urls disk_faults disk_last after (disk_of new.store)) (length keys)) where
   abbrev at : Store D → Counts
   at s = counts_of faults asked urls disk_faults disk_last link (disk_of s)
 
   abbrev now : Counts
   now = counts_of faults asked urls disk_faults disk_last after (disk_of new.store)
 
-  later_here : AreLater old.plan (at old.store) now
-  later_here = subst (λ (s : Store D). AreLater old.plan (at s) now) same.store
-      (subst (λ (p : Plan). AreLater p (at mid.store) now) same.plan later)
-
-  ends_here : EndsClaim (resolver_of old.core.ask) (desk_of mid) (desk_of new) seat key (at old.store) now finish
-  ends_here = subst (λ (s : Store D). EndsClaim (resolver_of old.core.ask) (desk_of mid) (desk_of new) seat key (at s) now finish)
-      same.store (subst (λ (a : Ask). EndsClaim (resolver_of a) (desk_of mid) (desk_of new) seat key (at mid.store) now finish)
-      same.ask ends)
+  ends_here : EndsSome (desk_of mid) (desk_of new) (at old.store) now (length keys)
+  ends_here = subst (λ (s : Store D). EndsSome (desk_of mid) (desk_of new) (at s) now (length keys)) same.store ends
 
   first : IsSameJob (desk_of old) (desk_of mid)
   first = record { settings = same.settings; plan = same.plan }
 
-  pub board_going : finish ≡ None → IsGoing (desk_of old) (desk_of new) (at old.store) now
-  board_going none = turn_going laws (desk_of old) (desk_of mid) (desk_of new) seat key (at old.store) now finish
-      (resolver_of old.core.ask) first job claimed later_here ends_here ready none
+  pub board_going : GoesOnSo (desk_of mid) (desk_of new) → any_in_flight new.core.history ≡ false
+      → IsGoing (desk_of old) (desk_of new) (at old.store) now
+  board_going goes landed =
+      batch_going laws (desk_of old) (desk_of mid) (desk_of new) seat keys (at old.store) now first claimed ends_here goes landed
 
-  pub board_worked : Legal new.core.settings (resolver_of new.core.ask) new.core.history → (f : Finish) → finish ≡ Some f
+  pub board_worked : new.core.ask ≡ mid.core.ask → Legal new.core.settings (resolver_of new.core.ask) new.core.history
+      → any_in_flight new.core.history ≡ false → (f : Finish) → EndsBy new.ended (at mid.store) now f
       → IsWorked (resolver_of old.core.ask) (desk_of old) (desk_of new) (at old.store) now f
-  board_worked legal f some = turn_worked laws (desk_of old) (desk_of mid) (desk_of new) seat key (at old.store) now finish
-      (resolver_of old.core.ask) first job claimed later_here ends_here ready
-      (subst (λ (a : Ask). Legal new.core.settings (resolver_of a) new.core.history) (ask ∙ same.ask) legal) f some
+  board_worked ask legal landed f by =
+      batch_worked laws (desk_of old) (desk_of mid) (desk_of new) seat keys (at old.store) now first claimed ends_here
+      (resolver_of old.core.ask)
+      (subst (λ (a : Ask). Legal new.core.settings (resolver_of a) new.core.history) (ask ∙ same.ask) legal) landed f
+      (subst (λ (s : Store D). EndsBy new.ended (at s) now f) same.store by)
+
+  pub board_few : AsksFor (λ one. true) (desk_of old) (desk_of new) (at old.store) now
+  board_few = batch_few laws (desk_of old) (desk_of mid) (desk_of new) seat keys (at old.store) now first claimed ends_here
+
+  pub board_more : claims old.core.history < most_claims old.core.settings → 0 < length keys
+      → AreMore (desk_of old) (desk_of new)
+  board_more room some =
+      batch_more laws (desk_of old) (desk_of mid) (desk_of new) seat keys (at old.store) now first claimed ends_here room some
 
 -- nothing that is known changes by an entry without an answer, or without an entry
 pub none_known : (all : Known) (h g : History) → g ≡ h → StaysTrue all h g

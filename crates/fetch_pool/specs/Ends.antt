@@ -4,10 +4,12 @@ use Rattle.claim_rules.specs.Histories.{What, arrive, broke, give_back}
 use Rattle.claim_rules.specs.declared.why.Why.TheVariants as whys
 use Rattle.file_fetch.specs.declared.errors.GetErr.{GetErr}
 use Rattle.file_fetch.specs.declared.errors.GetErr.TheVariants.{Link, NotCached, Disk, NoMemory}
+use Rattle.pool_rules.specs.Counts.{Counts}
 use Rattle.pool_rules.specs.declared.finish.EndCause.{EndCause}
 use Rattle.pool_rules.specs.declared.finish.EndCause.TheVariants as causes
 use Rattle.pool_rules.specs.declared.finish.Finish.{Finish}
 use Rattle.pool_rules.specs.declared.finish.Finish.TheVariants as finishes
+use Rattle.res_base.specs.Causes.{Rose}
 use Rattle.res_base.specs.declared.key.FileKey.{FileKey}
 use Rattle.res_base.specs.declared.reading.Reading.{Reading}
 
@@ -44,3 +46,12 @@ MayFail NoMemory finish ended = (finish ≡ Some finishes.Memory) × (ended ≡ 
 abbrev pub MayEnd : Result Reading GetErr → Option Finish → Option EndCause → Type 0
 MayEnd (Ok reading) finish ended = MayTake finish ended
 MayEnd (Err why) finish ended = MayFail why finish ended
+
+-- The work ended so: the disk failed, at this call last; or memory was wanted.
+abbrev pub EndsBy : Option EndCause → Counts → Counts → Finish → Type 0
+EndsBy ended before now finishes.Over = ⊥
+EndsBy ended before now (finishes.Stuck key why) = ⊥
+EndsBy ended before now finishes.TooMany = ⊥
+EndsBy ended before now (finishes.Disk call) =
+    Rose before.disk_faults now.disk_faults × (now.disk_last ≡ Some call) × (ended ≡ Some (causes.Disk call))
+EndsBy ended before now finishes.Memory = ended ≡ Some causes.Memory

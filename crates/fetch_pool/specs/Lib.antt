@@ -2,5 +2,6 @@
 pub mod Boards
 pub mod Claimed
 pub mod Ends
+pub mod Flights
 pub mod Turns
 pub mod Whys

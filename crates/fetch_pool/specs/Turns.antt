@@ -1,24 +1,25 @@
--- What work keeps of a board, of its link and of its disk, and what a turn makes of them.
-use Rattle.std.specs.Prelude.{ℕ, ◌≡◌, ◌⊎◌, ◌<◌, ◌+◌, false, true, max, List, Option, Some, None, IsSome}
+-- What work keeps of a board, of its link and of its disk, and what ends of claims and turns make of them.
+use Rattle.std.specs.Prelude.{ℕ, ◌≡◌, ◌⊎◌, ◌<◌, ◌≤◌, ◌+◌, ◌*◌, false, true, max, List, Option, Some, None, IsSome}
 use Rattle.cache_images.specs.Sound.{IsFaithful, IsSound}
 use Rattle.cache_policy.specs.declared.Decision.TheVariants.{Unavailable}
 use Rattle.cache_policy.specs.declared.Mode.TheVariants.{Offline}
 use Rattle.cache_store.specs.Stands.{disk_of}
 use Rattle.claim_rules.specs.Counts.{claims, is_lacking, is_return}
 use Rattle.claim_rules.specs.Histories.{What, History}
+use Rattle.claim_rules.specs.Legal.{StopsFrom}
 use Rattle.claim_rules.specs.declared.settings.Settings.{Settings}
-use Rattle.claim_rules.specs.Resolvers.{Resolver}
 use Rattle.disk_base.specs.Images.{Image, IsImageOf}
 use Rattle.disk_base.specs.Names.{Names, read_name}
 use Rattle.disk_base.specs.Runs.{Keeps}
 use Rattle.fetch_pool.specs.Boards.{desk_of}
+use Rattle.fetch_pool.specs.Ends.{EndsBy}
 use Rattle.fetch_pool.specs.declared.board.Board.{Board}
 use Rattle.file_fetch.specs.Decided.{decided_in}
 use Rattle.link_base.specs.Links.{LinkKept, Rows}
-use Rattle.pool_rules.specs.Boards.{Desk}
+use Rattle.pool_rules.specs.Boards.{Desk, all_returns}
 use Rattle.pool_rules.specs.Counts.{Counts}
-use Rattle.pool_rules.specs.Ends.{IsFinish}
-use Rattle.pool_rules.specs.Works.{IsEndOf, IsSameJob, costs, with_entry}
+use Rattle.pool_rules.specs.Plans.{files_in}
+use Rattle.pool_rules.specs.Works.{IsEndOf, IsSameJob, Works, costs, with_entry}
 use Rattle.pool_rules.specs.Worlds.{StaysTrue, whole_of}
 use Rattle.pool_rules.specs.declared.finish.Finish.{Finish}
 use Rattle.pool_rules.specs.declared.plan.Plan.{Plan}
@@ -56,20 +57,32 @@ pub record Kept {L D : Type 0} (agrees : L → Rows → Type 0) (faults asked : 
       → LacksOnly old.plan (told (disk_of old.store)) old.core.history new.core.history
 
 -- the claim of the key ended, at such counts, and the work goes on or ends so
-pub record EndsClaim {V : Type 0} (r : Resolver V) (old new : Desk) (seat : ℕ) (key : FileKey) (before now : Counts)
-    (finish : Option Finish) : Type 0 where
+pub record EndsClaim (old new : Desk) (seat : ℕ) (key : FileKey) (before now : Counts) (finish : Option Finish) : Type 0 where
   pub what : What
   pub end : IsEndOf key what
   pub history : new.history ≡ with_entry old.history seat what
   pub cost : costs old.plan what before now
   pub goes : finish ≡ None → (is_return what ≡ false) × (new.ended ≡ None)
-  pub stops : (f : Finish) → finish ≡ Some f → IsFinish r new before now f × IsSome new.ended
+  pub stops : (f : Finish) → finish ≡ Some f → EndsBy new.ended before now f
+
+-- So many claims ended by lawful work, and none was made; for each the link was asked for the files of one key at most.
+-- Where claims had stopped, they have.
+pub record EndsSome (old new : Desk) (before now : Counts) (n : ℕ) : Type 0 where
+  pub works : Works old new before now
+  pub same : claims new.history ≡ claims old.history
+  pub stops : (m : ℕ) → StopsFrom m old.history → StopsFrom m new.history
+  pub few : now.asked ≤ before.asked + n * files_in old.plan
+
+-- between two ends of claims the work goes on: nothing was given back
+pub record GoesOnSo (old new : Desk) : Type 0 where
+  pub kept : all_returns new.history ≡ all_returns old.history
+  pub going : new.ended ≡ None
 
 -- so many claims may be made
 abbrev pub most_claims : Settings → ℕ
 most_claims s = max s.limits.claims s.limits.hint_claims
 
--- one more claim was made, for which there was room
-pub record IsOneMore (old new : Desk) : Type 0 where
+-- more claims were made, and there was room for one
+pub record AreMore (old new : Desk) : Type 0 where
   pub room : claims old.history < most_claims old.settings
-  pub more : claims new.history ≡ claims old.history + 1
+  pub more : claims old.history < claims new.history

@@ -62,9 +62,9 @@ fn finish_counted<G: Ledger, L: Link, D: Disk>(
     }
 }
 
-/// Works a board through with one link: claims a key, gets its file from the cache or asks the link
-/// for it, publishes it, takes its reading in, and goes on until the session is over or stuck, or
-/// claims are used up, or the disk fails or memory is wanted.
+/// Works a board through with one link: claims a batch of keys, gets the file of each from the cache
+/// or asks the link for it, publishes it, takes its reading in, and goes on until the session is
+/// over or stuck, or claims are used up, or the disk fails or memory is wanted.
 ///
 /// The board's store is live and has no open part, its plan has an address that reads for each
 /// repository, nothing is in flight, and nothing has ended the work yet.

@@ -1,17 +1,19 @@
-//! How a claim ends: by an answer, by a break, or given back where the work ends.
-ghost use Rattle.std.specs.Prelude.{◌≡◌, IfOk, None, Some, true};
-ghost use Rattle.claim_rules.specs.Histories.{broke, give_back, holder};
+//! How claims end: by an answer, by a break, or given back where the work ends.
+ghost use Rattle.std.specs.Prelude.{◌≡◌, IfOk, None, Some, false, true};
+ghost use Rattle.claim_rules.specs.Histories.{any_in_flight, broke, give_back, holder};
 ghost use Rattle.fetch_pool.specs.Boards.{IsSameBoard};
 ghost use Rattle.fetch_pool.specs.Ends.{MayEnd, MayTake, finish_by, taken, what_of};
+ghost use Rattle.fetch_pool.specs.Flights.{OnlyFlying, with_each};
 ghost use Rattle.pool_rules.specs.Works.{with_entry};
 ghost use Rattle.project_lookup.specs.KnownPairs.{stands_at};
 
 use crate::Board;
 use arrival_core::{AbsorbErr, NotClaimed, Why};
+use claim_rules::flights_told;
 use disk_base::Disk;
 use file_fetch::GetErr;
 use pool_rules::{EndCause, Finish};
-use res_base::{FileKey, Reading};
+use res_base::{FileKey, Reading, equality_decided};
 use std::alloc::Global;
 
 /// Ends the work on a board, and says how.
@@ -26,6 +28,35 @@ pub(crate) fn end<D: Disk>(board: &mut Board<D>, cause: EndCause) -> Finish
     }
 }
 
+/// Gives a claim back.
+fn hand_back<D: Disk>(board: &mut Board<D>, seat: u32, key: &FileKey)
+    requires held { holder board.old.core.history key.now ≡ Some seat }
+    ensures same { IsSameBoard board.old board.new }
+    ensures history { board.new.core.history ≡ with_entry board.old.core.history seat (give_back key.now) }
+    ensures ended { board.new.ended ≡ board.old.ended }
+{
+    match board.core.give_back(seat, key) {
+        Ok(()) => {}
+        Err(NotClaimed) => unreachable!(),
+    }
+}
+
+/// Gives the claims of all these keys back.
+pub(crate) fn hand_all_back<D: Disk>(board: &mut Board<D>, seat: u32, keys: &[FileKey])
+    requires flying { OnlyFlying board.old.core.history seat keys.now }
+    ensures same { IsSameBoard board.old board.new }
+    ensures history { board.new.core.history
+        ≡ with_each board.old.core.history seat (λ key. give_back key) keys.now }
+    ensures ended { board.new.ended ≡ board.old.ended }
+    ensures landed { any_in_flight board.new.core.history ≡ false }
+{
+    equality_decided();
+    flights_told();
+    for key in keys {
+        hand_back(board, seat, key);
+    }
+}
+
 /// Gives a claim back and ends the work.
 fn give_up<D: Disk>(board: &mut Board<D>, seat: u32, key: &FileKey, cause: EndCause) -> Finish
     requires held { holder board.old.core.history key.now ≡ Some seat }
@@ -34,10 +65,8 @@ fn give_up<D: Disk>(board: &mut Board<D>, seat: u32, key: &FileKey, cause: EndCa
     ensures ended { board.new.ended ≡ Some cause }
     ensures finish { result ≡ finish_by cause }
 {
-    match board.core.give_back(seat, key) {
-        Ok(()) => end(board, cause),
-        Err(NotClaimed) => unreachable!(),
-    }
+    hand_back(board, seat, key);
+    end(board, cause)
 }
 
 /// Breaks a claim.

@@ -1,22 +1,20 @@
 //! What follows where a key was claimed, with nothing to run.
-ghost use Rattle.std.specs.Prelude.{◌≡◌, ◌<◌, ℕ, Some};
+ghost use Rattle.std.specs.Prelude.{◌≡◌, ◌<◌, false};
 ghost use Rattle.arrival_core.specs.Resolving.{resolver_of};
 ghost use Rattle.claim_rules.specs.Claims.{claim_of};
 ghost use Rattle.claim_rules.specs.Counts.{claims};
-ghost use Rattle.claim_rules.specs.Histories.{History, claim, holder};
+ghost use Rattle.claim_rules.specs.Histories.{History, in_flight};
 ghost use Rattle.claim_rules.specs.declared.claim.Claim.{Claim as Answer};
 ghost use Rattle.claim_rules.specs.declared.settings.Settings.{Settings as Given};
 ghost use Rattle.fetch_pool.specs.Turns.{most_claims};
 ghost use Rattle.file_fetch.specs.Keys.{CanAsk};
 ghost use Rattle.pool_rules.specs.Plans.{IsPlanFor};
-ghost use Rattle.pool_rules.specs.Works.{with_entry};
 ghost use Rattle.pool_rules.specs.declared.plan.Plan.{Plan as Asking};
 ghost use Rattle.res_base.specs.declared.key.FileKey.{FileKey as Key};
 ghost use Rattle.resolution.specs.declared.ask.Ask.{Ask as Asked};
 
 use asked_paths::paths_asked;
 use claim_rules::claim_answers;
-use res_base::equality_decided;
 use resolution::Verdict;
 
 /// A law: a claimed key may be asked for by a plan for the repositories.
@@ -35,9 +33,10 @@ pub(crate) fn claims_have_room()
     claim_answers::<Verdict>();
 }
 
-/// A law: the seat that claimed a key last has it.
-pub(crate) fn held_by_claim()
-    ensures { (h : History) (seat : ℕ) (key : Key) → holder (with_entry h seat (claim key)) key ≡ Some seat }
+/// A law: a claimed key was not in flight.
+pub(crate) fn claimed_lands()
+    ensures { (s : Given) (ask : Asked) (h : History) (key : Key)
+        → claim_of s (resolver_of ask) h ≡ Answer.Claimed key → in_flight h key ≡ false }
 {
-    equality_decided();
+    claim_answers::<Verdict>();
 }

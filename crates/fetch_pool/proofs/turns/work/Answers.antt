@@ -2,11 +2,10 @@ use Rattle.std.proofs.Common.{◌≡◌, ◌≤◌, Some, sym, ap, subst}
 use Rattle.std.specs.Prelude.{IfOk}
 use Rattle.cache_store.specs.Stands.{disk_of, is_live, parts_of}
 use Rattle.cache_store.specs.declared.store.Store.{Store}
-use Rattle.arrival_core.specs.Resolving.{resolver_of}
 use Rattle.fetch_pool.proofs.Keeping.{faithful_to, kept_got}
-use Rattle.fetch_pool.proofs.Settling.{Fetched, cost_of, ended_none, finish_of, goes_on, is_end, stays_idle, true_on}
+use Rattle.fetch_pool.proofs.Settling.{Fetched, cost_of, ended_none, ends_by, goes_on, is_end, stays_idle, true_on}
 use Rattle.fetch_pool.proofs.Lacking.{lacks_end}
-use Rattle.fetch_pool.specs.Boards.{IsIdle, desk_of}
+use Rattle.fetch_pool.specs.Boards.{IsIdle}
 use Rattle.fetch_pool.specs.Ends.{what_of}
 use Rattle.fetch_pool.specs.Turns.{LacksOnly}
 use Rattle.file_fetch.specs.Stores.{HasNoParts}
@@ -38,7 +37,7 @@ returns-clause-ends g c =
       history = c.settle.ensures.history;
       cost = cost_of old.plan key before now got c.settle.result fetched;
       goes = λ none. goes_on key got c.settle.result new.ended c.settle.ensures.ends none;
-      stops = finish_of (resolver_of old.core.ask) (desk_of new) old.plan key before now got c.settle.result fetched c.settle.ensures.ends;
+      stops = ends_by new.ended old.plan key before now got c.settle.result fetched c.settle.ensures.ends;
     }
 
 pub returns-clause-later : goal.returns-clause-later
