@@ -1,11 +1,11 @@
 //! A book beside the core: what became of each key, and what a claim answers by that.
 ghost use Rattle.std.specs.Prelude.{◌≡◌};
 
-use super::parts::{answer, progress};
+use super::parts::told;
 use arrival_core::{Claim, CoreLimits};
 use project_lookup::Known;
-use res_base::{Copied, FileKey, NoMemory, Steps};
-use resolution::{Ask, Progress};
+use res_base::{Copied, FileKey, NoMemory, Role, Steps, file_path};
+use resolution::{Ask, Node, Progress, Settled, Verdict};
 use round_core::rounds_plain;
 use std::alloc::Global;
 use std::sync::ledger::Ledger;
@@ -15,17 +15,17 @@ use std::sync::ledger::Ledger;
 #[derive(Clone, Copy, Drop)]
 pub(crate) struct Way {
     pub(crate) eager: bool,
+    pub(crate) files: bool,
     pub(crate) retries: u32,
     pub(crate) limits: CoreLimits,
     pub(crate) ends: u8,
     pub(crate) lacks: bool,
-    pub(crate) seed: u64,
-    pub(crate) steps: u32,
+    pub(crate) turns: u32,
 }
 
 /// What became of a key.
 #[derive(Clone, Copy, Drop)]
-pub(crate) struct Told {
+pub(crate) struct Fate {
     pub(crate) known: bool,
     pub(crate) holder: Option<u32>,
     pub(crate) breaks: u32,
@@ -35,24 +35,71 @@ pub(crate) struct Told {
 #[derive(Drop)]
 pub(crate) struct Row {
     pub(crate) key: FileKey,
-    pub(crate) told: Told,
+    pub(crate) fate: Fate,
+}
+
+/// How many events came, and how often each answer of a claim.
+#[derive(Clone, Copy, Drop)]
+pub(crate) struct Tally {
+    pub(crate) events: usize,
+    pub(crate) claimed: u32,
+    pub(crate) none_now: u32,
+    pub(crate) too_many: u32,
+    pub(crate) stuck: u32,
+    pub(crate) over: u32,
 }
 
 /// What became of all keys, and what arrived.
 #[derive(Drop)]
 pub(crate) struct Book {
     pub(crate) rows: Vec<Row>,
-    pub(crate) claims: u32,
+    pub(crate) tally: Tally,
     pub(crate) known: Known,
 }
 
-pub(crate) fn told_of(rows: &[Row], key: &FileKey) -> Told {
-    for row in rows {
-        if row.key == *key {
-            return row.told;
+impl Tally {
+    pub(crate) const NOTHING: Tally = Tally {
+        events: 0,
+        claimed: 0,
+        none_now: 0,
+        too_many: 0,
+        stuck: 0,
+        over: 0,
+    };
+
+    /// With one answer more.
+    pub(crate) fn with(self, claim: &Claim) -> Tally {
+        let mut tally = self;
+        match claim {
+            Claim::Claimed(_) => tally.claimed = self.claimed.saturating_add(1),
+            Claim::NoneNow => tally.none_now = self.none_now.saturating_add(1),
+            Claim::TooMany => tally.too_many = self.too_many.saturating_add(1),
+            Claim::Stuck(_) => tally.stuck = self.stuck.saturating_add(1),
+            Claim::Over => tally.over = self.over.saturating_add(1),
+        }
+        tally
+    }
+
+    /// The two together, with the greater number of events.
+    pub(crate) fn and(self, other: Tally) -> Tally {
+        Tally {
+            events: self.events.max(other.events),
+            claimed: self.claimed.saturating_add(other.claimed),
+            none_now: self.none_now.saturating_add(other.none_now),
+            too_many: self.too_many.saturating_add(other.too_many),
+            stuck: self.stuck.saturating_add(other.stuck),
+            over: self.over.saturating_add(other.over),
         }
     }
-    Told {
+}
+
+pub(crate) fn fate_of(rows: &[Row], key: &FileKey) -> Fate {
+    for row in rows {
+        if row.key == *key {
+            return row.fate;
+        }
+    }
+    Fate {
         known: false,
         holder: None,
         breaks: 0,
@@ -64,23 +111,23 @@ pub(crate) fn put(
     alloc: Global,
     rows: &mut Vec<Row>,
     key: &FileKey,
-    told: Told,
+    fate: Fate,
 ) -> Result<(), NoMemory> {
     for row in rows.iter_mut() {
         if row.key == *key {
-            row.told = told;
+            row.fate = fate;
             return Ok(());
         }
     }
     rows.push(Row {
         key: key.copy(alloc)?,
-        told,
+        fate,
     })?;
     Ok(())
 }
 
-fn is_free(told: Told, retries: u32) -> bool {
-    !told.known && told.holder.is_none() && told.breaks <= retries && !told.lacking
+fn is_free(fate: Fate, retries: u32) -> bool {
+    !fate.known && fate.holder.is_none() && fate.breaks <= retries && !fate.lacking
 }
 
 fn lesser<'a>(least: Option<&'a FileKey>, key: &'a FileKey) -> &'a FileKey {
@@ -101,7 +148,7 @@ fn least<'a>(keys: &'a [FileKey]) -> Option<&'a FileKey> {
 fn least_free<'a>(rows: &[Row], retries: u32, keys: &'a [FileKey]) -> Option<&'a FileKey> {
     let mut least: Option<&FileKey> = None;
     for key in keys {
-        if is_free(told_of(rows, key), retries) {
+        if is_free(fate_of(rows, key), retries) {
             least = Some(lesser(least, key));
         }
     }
@@ -110,7 +157,7 @@ fn least_free<'a>(rows: &[Row], retries: u32, keys: &'a [FileKey]) -> Option<&'a
 
 fn is_any_held(rows: &[Row]) -> bool {
     for row in rows {
-        if row.told.holder.is_some() {
+        if row.fate.holder.is_some() {
             return true;
         }
     }
@@ -131,46 +178,74 @@ fn put_later(alloc: Global, hints: &mut Vec<FileKey>, key: &FileKey) -> Result<(
     Ok(())
 }
 
+/// Files have no hints.
 fn hints(alloc: Global, eager: bool, needs: &[FileKey]) -> Result<Vec<FileKey>, NoMemory> {
     let mut hints = Vec::new(alloc);
-    if eager {
-        for key in needs {
+    for key in needs {
+        if eager && key.role != Role::Artifact {
             put_later(alloc, &mut hints, key)?;
         }
     }
     Ok(hints)
 }
 
-fn held(alloc: Global, book: &Book, way: Way, needs: &[FileKey]) -> Result<String, NoMemory> {
-    let hints = hints(alloc, way.eager, needs)?;
-    if book.claims >= way.limits.hint_claims {
-        return answer(alloc, &Claim::NoneNow);
+/// The jar of a project, in the repository in which the project was found.
+fn jar(alloc: Global, node: &Node) -> Result<FileKey, NoMemory> {
+    Ok(FileKey {
+        repo: node.repo,
+        role: Role::Artifact,
+        path: file_path(alloc, &node.coord, "jar", "")?,
+    })
+}
+
+fn jars(alloc: Global, rows: &[Row], settled: &Settled) -> Result<Vec<FileKey>, NoMemory> {
+    let mut jars = Vec::new(alloc);
+    for node in settled.nodes.as_slice() {
+        let key = jar(alloc, node)?;
+        if !fate_of(rows, &key).known {
+            jars.push(key)?;
+        }
     }
-    match least_free(book.rows.as_slice(), way.retries, hints.as_slice()) {
-        Some(hint) => answer(alloc, &Claim::Claimed(hint.copy(alloc)?)),
-        None => answer(alloc, &Claim::NoneNow),
+    Ok(jars)
+}
+
+/// What the session needs where the rounds come so far.
+fn needs(
+    alloc: Global,
+    rows: &[Row],
+    files: bool,
+    rounds: &Progress,
+) -> Result<Vec<FileKey>, NoMemory> {
+    match rounds {
+        Progress::Waiting { needs, .. } => Ok(needs.copy(alloc)?.into_vec()),
+        Progress::Over(Verdict::Settled(settled)) if files => jars(alloc, rows, settled),
+        Progress::Over(_) => Ok(Vec::new(alloc)),
     }
 }
 
-fn needed(alloc: Global, book: &Book, way: Way, need: &FileKey) -> Result<String, NoMemory> {
-    if book.claims >= way.limits.claims {
-        return answer(alloc, &Claim::TooMany);
+/// A hint, where no need is free and a key is held.
+fn hinted(alloc: Global, book: &Book, way: Way, needs: &[FileKey]) -> Result<Claim, NoMemory> {
+    if book.tally.claimed >= way.limits.hint_claims {
+        return Ok(Claim::NoneNow);
     }
-    answer(alloc, &Claim::Claimed(need.copy(alloc)?))
+    let hints = hints(alloc, way.eager, needs)?;
+    match least_free(book.rows.as_slice(), way.retries, hints.as_slice()) {
+        Some(hint) => Ok(Claim::Claimed(hint.copy(alloc)?)),
+        None => Ok(Claim::NoneNow),
+    }
 }
 
 /// What a claim answers where these are the needs.
-fn claimed(alloc: Global, book: &Book, way: Way, needs: &[FileKey]) -> Result<String, NoMemory> {
+fn claimed(alloc: Global, book: &Book, way: Way, needs: &[FileKey]) -> Result<Claim, NoMemory> {
     let rows = book.rows.as_slice();
-    if let Some(need) = least_free(rows, way.retries, needs) {
-        return needed(alloc, book, way, need);
-    }
-    if is_any_held(rows) {
-        return held(alloc, book, way, needs);
-    }
-    match least(needs) {
-        None => answer(alloc, &Claim::Over),
-        Some(key) => answer(alloc, &Claim::Stuck(key.copy(alloc)?)),
+    let Some(first) = least(needs) else {
+        return Ok(Claim::Over);
+    };
+    match least_free(rows, way.retries, needs) {
+        Some(_) if book.tally.claimed >= way.limits.claims => Ok(Claim::TooMany),
+        Some(need) => Ok(Claim::Claimed(need.copy(alloc)?)),
+        None if is_any_held(rows) => hinted(alloc, book, way, needs),
+        None => Ok(Claim::Stuck(first.copy(alloc)?)),
     }
 }
 
@@ -185,10 +260,8 @@ pub(crate) fn expected<L: Ledger>(
     requires { ask.now.repos ≡ book.now.known.repos }
 {
     let rounds = rounds_plain(alloc, &book.known, ask, steps)?;
-    let at = progress(alloc, &rounds)?;
-    let said = match &rounds {
-        Progress::Over(_) => answer(alloc, &Claim::Over)?,
-        Progress::Waiting { needs, .. } => claimed(alloc, book, way, needs.as_slice())?,
-    };
-    Ok(format!(in alloc; "{}{}", at.as_str(), said.as_str())?)
+    let needs = needs(alloc, book.rows.as_slice(), way.files, &rounds)?;
+    let claim = claimed(alloc, book, way, needs.as_slice())?;
+    let is_over = matches!(&rounds, Progress::Over(_));
+    told(alloc, &rounds, is_over, &claim)
 }

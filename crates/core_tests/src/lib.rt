@@ -6,6 +6,8 @@ mod book;
 #[cfg(test)]
 mod parts;
 #[cfg(test)]
+mod projects;
+#[cfg(test)]
 mod random;
 #[cfg(test)]
 mod sessions;

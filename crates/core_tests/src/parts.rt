@@ -5,36 +5,37 @@ ghost use Rattle.res_base.specs.declared.key.Role.TheVariants.{Pom};
 use arrival_core::Claim;
 use reconcile_rules::Rule;
 use res_base::{
-    Coord, DepRecord, FileKey, List, Module, NoMemory, PomRecord, Role, Text, parse_coord, pom_path,
+    Coord, DepRecord, FileKey, List, Module, NoMemory, PomRecord, Role, Text, pom_path,
 };
-use resolution::{Ask, Progress, Settled, Verdict};
+use resolution::{Ask, Choice, Choices, Progress, Settled, Verdict};
 use scope_rules::Configuration;
 use std::alloc::Global;
 
-/// `x:NAME:1`.
-pub(crate) fn coord(alloc: Global, name: &str) -> Result<Coord, NoMemory> {
-    let text = format!(in alloc; "x:{name}:1")?;
-    match parse_coord(alloc, text.as_str()) {
-        Ok(coord) => Ok(coord),
-        Err(_) => Err(NoMemory),
-    }
+/// `x:NAME:VERSION`.
+pub(crate) fn coord(alloc: Global, name: &str, version: &str) -> Result<Coord, NoMemory> {
+    Ok(Coord {
+        module: Module {
+            org: Text::of(alloc, "x")?,
+            name: Text::of(alloc, name)?,
+        },
+        version: Text::of(alloc, version)?,
+    })
 }
 
 /// The key of the POM of `x:NAME:1` in a repository.
 pub(crate) fn key(alloc: Global, name: &str, repo: u32) -> Result<FileKey, NoMemory>
-    ensures role { IfOk result (λ made. made.role ≡ Pom) }
-    ensures repo { IfOk result (λ made. made.repo ≡ repo) }
+    ensures { IfOk result (λ made. made.role ≡ Pom) }
 {
     Ok(FileKey {
         repo,
         role: Role::Pom,
-        path: pom_path(alloc, &coord(alloc, name)?)?,
+        path: pom_path(alloc, &coord(alloc, name, "1")?)?,
     })
 }
 
 /// A project with these dependencies.
-pub(crate) fn pom(alloc: Global, name: &str, deps: List<DepRecord>) -> Result<PomRecord, NoMemory> {
-    let Coord { module, version } = coord(alloc, name)?;
+pub(crate) fn pom(alloc: Global, at: Coord, deps: List<DepRecord>) -> Result<PomRecord, NoMemory> {
+    let Coord { module, version } = at;
     let Module { org, name } = module;
     Ok(PomRecord {
         parent: None,
@@ -50,33 +51,44 @@ pub(crate) fn pom(alloc: Global, name: &str, deps: List<DepRecord>) -> Result<Po
 }
 
 /// The resolution of `x:NAME:1` for each of these names, within nine rounds.
-pub(crate) fn ask(alloc: Global, roots: &[&str], repos: u32) -> Result<Ask, NoMemory>
-    ensures { IfOk result (λ made. made.repos ≡ repos) }
+pub(crate) fn ask(alloc: Global, names: &str, files: bool) -> Result<Ask, NoMemory>
+    ensures { IfOk result (λ made. made.repos ≡ 3) }
 {
-    let mut made: List<Coord> = List::new(alloc);
-    for name in roots {
-        made.push(coord(alloc, name)?)?;
+    let mut roots: List<Coord> = List::new(alloc);
+    for name in names.split_ascii_whitespace() {
+        roots.push(coord(alloc, name, "1")?)?;
     }
     Ok(Ask {
-        roots: made,
+        roots,
         forced: List::new(alloc),
         boms: List::new(alloc),
         excludes: List::new(alloc),
         configuration: Configuration::Default,
         rule: Rule::Default,
         rounds: 9,
-        repos,
-        files: false,
+        repos: 3,
+        files,
     })
 }
 
-/// The letter that names a key's project, and its repository.
-fn key_word(alloc: Global, key: &FileKey) -> Result<String, NoMemory> {
-    let name = match key.path.as_str().as_bytes().get(2) {
+/// A letter of a key's path: with 2 that of the project, with 4 that of its version.
+pub(crate) fn letter_at(key: &FileKey, place: usize) -> char {
+    match key.path.as_str().as_bytes().get(place) {
         Some(letter) => char::from(*letter),
         None => '?',
+    }
+}
+
+/// The project and its version, `p` for its POM, `l` for a listing or `f` for a file, and the
+/// repository.
+fn key_word(alloc: Global, key: &FileKey) -> Result<String, NoMemory> {
+    let (name, version) = (letter_at(key, 2), letter_at(key, 4));
+    let kind = match key.role {
+        Role::Pom => 'p',
+        Role::Listing => 'l',
+        Role::Artifact => 'f',
     };
-    Ok(format!(in alloc; "{name}{}", key.repo)?)
+    Ok(format!(in alloc; "{name}{version}{kind}{}", key.repo)?)
 }
 
 /// The answer of a claim: its letter where it is none, and the key that it names.
@@ -98,16 +110,32 @@ fn key_words(alloc: Global, keys: &[FileKey]) -> Result<String, NoMemory> {
     Ok(words)
 }
 
-fn node_words(alloc: Global, settled: &Settled) -> Result<String, NoMemory> {
+/// Each module with its version, or `!` where there is none.
+fn choice_words(alloc: Global, choices: &Choices) -> Result<String, NoMemory> {
     let mut words = String::new(alloc);
-    for node in settled.nodes.as_slice() {
-        words.push_str(node.coord.module.name.as_str())?;
+    for row in choices.rows.as_slice() {
+        words.push_str(row.module.name.as_str())?;
+        words.push_str(match &row.choice {
+            Choice::Version(version) => version.as_str(),
+            Choice::Clash(_) => "!",
+        })?;
     }
     Ok(words)
 }
 
-/// How far the rounds come: `W`, the round, the number of choices and the needed keys, or `D`, the
-/// round and the modules that settled.
+/// Each project with its version and repository.
+fn node_words(alloc: Global, settled: &Settled) -> Result<String, NoMemory> {
+    let mut words = String::new(alloc);
+    for node in settled.nodes.as_slice() {
+        let (name, version) = (node.coord.module.name.as_str(), node.coord.version.as_str());
+        let word = format!(in alloc; "{name}{version}.{}", node.repo)?;
+        words.push_str(word.as_str())?;
+    }
+    Ok(words)
+}
+
+/// How far the rounds come: `W`, the round, the choices and the needed keys, or `D`, the round, the
+/// projects that settled and the number of edges.
 pub(crate) fn progress(alloc: Global, progress: &Progress) -> Result<String, NoMemory> {
     match progress {
         Progress::Waiting {
@@ -115,14 +143,27 @@ pub(crate) fn progress(alloc: Global, progress: &Progress) -> Result<String, NoM
             choices,
             needs,
         } => {
-            let chosen = choices.rows.len();
+            let chosen = choice_words(alloc, choices)?;
             let words = key_words(alloc, needs.as_slice())?;
-            Ok(format!(in alloc; "W{round}{chosen}{} ", words.as_str())?)
+            Ok(format!(in alloc; "W{round}:{}:{}", chosen.as_str(), words.as_str())?)
         }
         Progress::Over(Verdict::Settled(settled)) => {
             let words = node_words(alloc, settled)?;
-            Ok(format!(in alloc; "D{}{} ", settled.round, words.as_str())?)
+            let edges = settled.edges.len();
+            Ok(format!(in alloc; "D{}:{}:{edges}", settled.round, words.as_str())?)
         }
-        Progress::Over(_) => Ok(format!(in alloc; "F ")?),
+        Progress::Over(_) => Ok(format!(in alloc; "F")?),
     }
+}
+
+/// How far the rounds come, whether there is a verdict, and the answer of a claim there.
+pub(crate) fn told(
+    alloc: Global,
+    at: &Progress,
+    has_verdict: bool,
+    claim: &Claim,
+) -> Result<String, NoMemory> {
+    let mark = if has_verdict { "=" } else { "-" };
+    let (at, answer) = (progress(alloc, at)?, answer(alloc, claim)?);
+    Ok(format!(in alloc; "{} {mark} {}", at.as_str(), answer.as_str())?)
 }

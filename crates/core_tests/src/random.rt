@@ -1,13 +1,12 @@
 //! Sessions at random: each answer is what the book and the rounds from nothing say.
-ghost use Rattle.std.specs.Prelude.{◌≡◌, ◌<◌, IfOk, true};
-ghost use Rattle.project_lookup.specs.KnownPairs.{stands_at};
-ghost use Rattle.res_base.specs.declared.key.Role.TheVariants.{Pom};
+ghost use Rattle.std.specs.Prelude.{◌≡◌, ◌<◌};
 
-use super::book::{Book, Row, Told, Way, expected, put, told_of};
-use super::parts::{answer, ask, coord, key, pom, progress};
+use super::book::{Book, Fate, Row, Tally, Way, expected, fate_of, put};
+use super::parts::{ask, told};
+use super::projects::reading;
 use arrival_core::{Claim, Core, CoreLimits, Why};
 use project_lookup::Known;
-use res_base::{Copied, DepRecord, FileKey, List, NoMemory, Reading, Steps, Text};
+use res_base::{Copied, FileKey, NoMemory, Steps};
 use resolution::Ask;
 use std::alloc::Global;
 use std::marker::Brand;
@@ -35,15 +34,16 @@ impl Dice {
     }
 }
 
-/// A claimed key is noted in the book.
+/// The answer of a claim is noted in the book.
 fn note(alloc: Global, book: &mut Book, seat: u32, claim: &Claim) -> Result<(), NoMemory>
     ensures { book.new.known.repos ≡ book.old.known.repos }
 {
+    book.tally = book.tally.with(claim);
     if let Claim::Claimed(key) = claim {
-        let mut told = told_of(book.rows.as_slice(), key);
-        told.holder = Some(seat);
-        put(alloc, &mut book.rows, key, told)?;
-        book.claims = book.claims.saturating_add(1);
+        let mut fate = fate_of(book.rows.as_slice(), key);
+        fate.holder = Some(seat);
+        put(alloc, &mut book.rows, key, fate)?;
+        book.tally.events = book.tally.events.saturating_add(1);
     }
     Ok(())
 }
@@ -59,54 +59,26 @@ fn said<L: Ledger>(
     ensures { book.new.known.repos ≡ book.old.known.repos }
 {
     core.advance(alloc, steps)?;
-    let at = progress(alloc, core.progress())?;
     let claim = core.claim(alloc, seat)?;
     note(alloc, book, seat, &claim)?;
-    let said = answer(alloc, &claim)?;
-    Ok(format!(in alloc; "{}{}", at.as_str(), said.as_str())?)
+    told(alloc, core.progress(), core.verdict().is_some(), &claim)
 }
 
-/// The place of a name among `a`, `b`, ..
-fn place_in(key: &FileKey) -> u32 {
-    match key.path.as_str().as_bytes().get(2) {
-        Some(letter) => u32::from(letter.saturating_sub(97)),
-        None => 0,
-    }
+/// The core takes the answer.
+fn absorb(alloc: Global, core: &mut Core, seat: u32, key: &FileKey) -> Result<bool, NoMemory> {
+    let reading = reading(alloc, key)?;
+    Ok(core.absorb(alloc, seat, key, reading).is_ok())
 }
 
-fn name(alloc: Global, place: u32) -> Result<String, NoMemory> {
-    let letter = char::from((place % 26) as u8 + 97);
-    Ok(format!(in alloc; "{letter}")?)
-}
-
-fn dep(alloc: Global, place: u32) -> Result<DepRecord, NoMemory> {
-    let to = coord(alloc, name(alloc, place)?.as_str())?;
-    Ok(DepRecord {
-        module: to.module,
-        version: to.version,
-        kind: Text::new(alloc),
-        classifier: Text::new(alloc),
-        scope: Text::new(alloc),
-        optional: Text::new(alloc),
-        exclusions: List::new(alloc),
-    })
-}
-
-/// Each project is in one of three repositories. `a` needs `d` and `e`, `b` needs `g` and `h`, and
-/// `c` needs `j`.
-fn reading(alloc: Global, place: u32, repo: u32) -> Result<Reading, NoMemory>
-    ensures { IfOk result (λ made. stands_at made Pom ≡ true) }
+/// The answer is noted beside the core.
+fn keep(alloc: Global, known: &mut Known, key: &FileKey) -> Result<bool, NoMemory>
+    ensures { known.new.repos ≡ known.old.repos }
 {
-    if place % 3 != repo {
-        return Ok(Reading::Absent);
+    if key.repo >= known.repos() {
+        return Ok(false);
     }
-    let mut deps: List<DepRecord> = List::new(alloc);
-    for child in 3..10 {
-        if child / 3 - 1 == place && child % 3 < 2 {
-            deps.push(dep(alloc, child)?)?;
-        }
-    }
-    Ok(Reading::Pom(pom(alloc, name(alloc, place)?.as_str(), deps)?))
+    let reading = reading(alloc, key)?;
+    Ok(known.insert(key.copy(alloc)?, reading).is_ok())
 }
 
 /// The answer arrives, and is noted.
@@ -115,17 +87,14 @@ fn arrive(
     core: &mut Core,
     known: &mut Known,
     seat: u32,
-    place: u32,
-    repo: u32,
+    key: &FileKey,
 ) -> Result<bool, NoMemory>
     ensures { known.new.repos ≡ known.old.repos }
 {
-    let key = key(alloc, name(alloc, place)?.as_str(), repo)?;
-    let told = core.absorb(alloc, seat, &key, reading(alloc, place, repo)?);
-    if told.is_err() || repo >= known.repos() {
+    if !absorb(alloc, core, seat, key)? {
         return Ok(false);
     }
-    Ok(known.insert(key, reading(alloc, place, repo)?).is_ok())
+    keep(alloc, known, key)
 }
 
 /// The kind of an end by a number that was thrown: where the cache lacks nothing, a claim is given
@@ -139,12 +108,12 @@ fn is_link(kind: u32) -> bool {
     kind > 1 && kind % 2 == 0
 }
 
-/// What is told of a key after the end of its claim.
-fn ended(told: Told, kind: u32) -> Told {
-    Told {
+/// What became of a key after the end of its claim.
+fn ended(fate: Fate, kind: u32) -> Fate {
+    Fate {
         known: kind == 0,
         holder: None,
-        breaks: told.breaks.saturating_add(u32::from(is_link(kind))),
+        breaks: fate.breaks.saturating_add(u32::from(is_link(kind))),
         lacking: kind == 1,
     }
 }
@@ -162,7 +131,7 @@ fn finish(
     ensures { known.new.repos ≡ known.old.repos }
 {
     match kind {
-        0 => arrive(alloc, core, known, seat, place_in(key), key.repo),
+        0 => arrive(alloc, core, known, seat, key),
         1 => Ok(core.broke(seat, key, Why::NotCached).is_ok()),
         _ if is_link(kind) => Ok(core.broke(seat, key, Why::Link).is_ok()),
         _ => Ok(core.give_back(seat, key).is_ok()),
@@ -187,16 +156,18 @@ fn end(
 ) -> Result<bool, NoMemory>
     ensures { book.new.known.repos ≡ book.old.known.repos }
 {
-    let Some(row) = row_at(book.rows.as_slice(), dice.roll(24)) else {
+    let Some(row) = row_at(book.rows.as_slice(), dice.roll(60)) else {
         return Ok(true);
     };
-    let told = row.told;
+    let fate = row.fate;
     let key = row.key.copy(alloc)?;
     let seat = dice.roll(2);
-    let own = told.holder == Some(seat);
+    let own = fate.holder == Some(seat);
     let kind = kind_of(dice.roll(u32::from(way.ends) + 1), way.lacks);
-    let after = if own { ended(told, kind) } else { told };
-    put(alloc, &mut book.rows, &key, after)?;
+    if own {
+        put(alloc, &mut book.rows, &key, ended(fate, kind))?;
+        book.tally.events = book.tally.events.saturating_add(1);
+    }
     let done = finish(alloc, core, &mut book.known, seat, &key, kind)?;
     Ok(done == own)
 }
@@ -222,65 +193,80 @@ fn turn<L: Ledger>(
     Ok(told.as_str() == wanted.as_str())
 }
 
-/// How many events came, where all came out as it should.
-fn run<L: Ledger>(alloc: Global, way: Way, blank: Blank) -> Result<Option<usize>, NoMemory>
+/// What came of a session, where all came out as it should and the core counts as many events.
+fn run<L: Ledger>(alloc: Global, way: Way, blank: Blank) -> Result<Option<Tally>, NoMemory>
     requires name { blank.name ≡ L.name }
     requires parts { blank.parts ≡ L.parts }
     requires some { 0 < blank.parts }
 {
     let mut steps: Steps<L> = Steps::new(blank);
-    let mut dice = Dice { state: way.seed };
+    let mut dice = Dice {
+        state: u64::from(way.ends),
+    };
     let mut book = Book {
         rows: Vec::new(alloc),
-        claims: 0,
+        tally: Tally::NOTHING,
         known: Known::new(alloc, 3),
     };
-    let roots = ["c", "a", "b"];
-    let asked = ask(alloc, &roots, 3)?;
-    let own = ask(alloc, &roots, 3)?;
+    let asked = ask(alloc, "c a b", way.files)?;
+    let own = ask(alloc, "c a b", way.files)?;
     let mut core = Core::new(alloc, own, way.eager, way.retries, way.limits)?;
-    for _turn in 0..way.steps {
+    for _turn in 0..way.turns {
         if !turn(
             alloc, &mut core, &mut book, &asked, way, &mut dice, &mut steps,
         )? {
             return Ok(None);
         }
     }
-    Ok(Some(core.events().len()))
+    if core.events().len() != book.tally.events {
+        return Ok(None);
+    }
+    Ok(Some(book.tally))
 }
 
-fn counted(alloc: Global, way: Way) -> Result<Option<usize>, NoMemory> {
+fn counted(alloc: Global, way: Way) -> Result<Option<Tally>, NoMemory> {
     run::<Brand>(alloc, way, Blank::new(1))
 }
 
-fn way(eager: bool, retries: u32, claims: u32, ends: u8, lacks: bool, steps: u32) -> Way {
+fn way(flags: &str, retries: u32, claims: u32, ends: u8, turns: u32) -> Way {
     Way {
-        eager,
+        eager: flags.contains('e'),
+        files: flags.contains('f'),
+        lacks: flags.contains('l'),
         retries,
         limits: CoreLimits {
             claims,
             hint_claims: claims / 2,
         },
         ends,
-        lacks,
-        seed: u64::from(ends),
-        steps,
+        turns,
     }
 }
 
 #[test]
 fn random_sessions(rt: HostRuntime) -> Result<(), Fail> {
     let alloc = rt.alloc();
-    for (eager, retries, claims, ends, lacks, steps, least) in [
-        (true, 4000, 4000, 60, false, 4200, 1000),
-        (false, 2, 4000, 4, true, 300, 10),
-        (true, 1, 40, 8, true, 300, 5),
-        (false, 0, 9, 6, true, 100, 3),
+    let mut all = Tally::NOTHING;
+    for (flags, retries, claims, ends, turns, least) in [
+        ("ef", 4000, 4000, 60, 5000, 1000),
+        ("", 4000, 4000, 40, 1500, 200),
+        ("f", 4000, 4000, 2, 400, 20),
+        ("ef", 4000, 4000, 3, 400, 20),
+        ("l", 2, 4000, 4, 300, 10),
+        ("el", 1, 40, 8, 300, 5),
+        ("efl", 0, 9, 6, 100, 3),
     ] {
-        let events = counted(alloc, way(eager, retries, claims, ends, lacks, steps))?;
-        assert!(rt; events.is_some(), "another answer at ends {ends}");
-        let came = events.unwrap_or(0);
-        assert!(rt; came >= least, "{came} events at ends {ends}");
+        let tally = counted(alloc, way(flags, retries, claims, ends, turns))?;
+        assert!(rt; tally.is_some(), "another answer at ends {ends}");
+        let came = tally.unwrap_or(Tally::NOTHING);
+        assert!(rt;
+            came.events >= least,
+            "{} events at ends {ends}",
+            came.events
+        );
+        all = all.and(came);
     }
+    assert!(rt; all.claimed > 0 && all.none_now > 0 && all.too_many > 0);
+    assert!(rt; all.stuck > 0 && all.over > 0);
     Ok(())
 }

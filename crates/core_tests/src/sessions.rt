@@ -1,67 +1,117 @@
 //! Small sessions, in all orders of arrival, with ample memory.
-ghost use Rattle.std.specs.Prelude.{◌≡◌, ◌<◌, ◌≤◌, IfOk, true};
+ghost use Rattle.std.specs.Prelude.{◌≡◌, ◌<◌, IfOk, true};
 ghost use Rattle.project_lookup.specs.KnownPairs.{stands_at};
 ghost use Rattle.res_base.specs.declared.key.Role.TheVariants.{Pom};
 
-use super::parts::{answer, ask, key, pom, progress};
+use super::parts::{answer, ask, coord, key, pom, progress};
 use arrival_core::{Core, CoreLimits, Why};
-use res_base::{FileKey, List, NoMemory, Reading, Steps};
+use res_base::{List, NoMemory, Reading, Steps};
 use std::alloc::Global;
 use std::marker::Brand;
 use std::sync::ledger::{Blank, Ledger};
 use std::test::Fail;
 
-/// A project without dependencies, or that the file is absent.
-fn reading(alloc: Global, name: &str, op: char) -> Result<Reading, NoMemory>
-    ensures { IfOk result (λ made. stands_at made Pom ≡ true) }
-{
-    if op == 'a' {
-        return Ok(Reading::Absent);
-    }
-    Ok(Reading::Pom(pom(alloc, name, List::new(alloc))?))
+/// How a session begins.
+#[derive(Clone, Copy, Drop)]
+struct Start<'a> {
+    roots: &'a str,
+    eager: bool,
+    retries: u32,
+    limits: CoreLimits,
 }
 
-/// Does one thing and says what came of it: `c` claims, `p` and `a` are answers, `b` and `n` break,
-/// `g` gives back, `s` tells the progress.
+/// One thing of a session, from a word as `p1a0`: what is done, by which seat, to the POM of `x:a:1`
+/// in which repository.
+#[derive(Clone, Copy, Drop)]
+struct Deed {
+    kind: char,
+    seat: u32,
+    name: char,
+    repo: u32,
+}
+
+fn digit(byte: u8) -> u32 {
+    u32::from(byte.saturating_sub(48))
+}
+
+fn deed_of(word: &str) -> Deed {
+    match word.as_bytes() {
+        [kind, seat, name, repo] => Deed {
+            kind: char::from(*kind),
+            seat: digit(*seat),
+            name: char::from(*name),
+            repo: digit(*repo),
+        },
+        [kind, seat, ..] => Deed {
+            kind: char::from(*kind),
+            seat: digit(*seat),
+            name: 'a',
+            repo: 0,
+        },
+        _ => Deed {
+            kind: 's',
+            seat: 0,
+            name: 'a',
+            repo: 0,
+        },
+    }
+}
+
+/// A project without dependencies, or that the file is absent.
+fn reading(alloc: Global, name: &str, kind: char) -> Result<Reading, NoMemory>
+    ensures { IfOk result (λ made. stands_at made Pom ≡ true) }
+{
+    if kind == 'a' {
+        return Ok(Reading::Absent);
+    }
+    let at = coord(alloc, name, "1")?;
+    Ok(Reading::Pom(pom(alloc, at, List::new(alloc))?))
+}
+
+/// Ends a claim, and says whether that was taken: `p` and `a` are answers, `b` and `n` break, and
+/// `g` gives back.
+fn end(alloc: Global, core: &mut Core, deed: Deed) -> Result<bool, NoMemory> {
+    let name = format!(in alloc; "{}", deed.name)?;
+    let key = key(alloc, name.as_str(), deed.repo)?;
+    match deed.kind {
+        'b' => Ok(core.broke(deed.seat, &key, Why::Link).is_ok()),
+        'n' => Ok(core.broke(deed.seat, &key, Why::NotCached).is_ok()),
+        'g' => Ok(core.give_back(deed.seat, &key).is_ok()),
+        _ => {
+            let reading = reading(alloc, name.as_str(), deed.kind)?;
+            Ok(core.absorb(alloc, deed.seat, &key, reading).is_ok())
+        }
+    }
+}
+
+/// Does one thing and says what came of it: `c` claims, `s` tells the progress, and the others end.
 fn act<L: Ledger>(
     alloc: Global,
     core: &mut Core,
     steps: &mut Steps<L>,
-    op: char,
-    seat: u32,
-    key: &FileKey,
-    reading: Reading,
-) -> Result<String, NoMemory>
-    requires { stands_at reading key.now.role ≡ true }
-{
-    let done = match op {
+    deed: Deed,
+) -> Result<String, NoMemory> {
+    match deed.kind {
         'c' => {
             core.advance(alloc, steps)?;
-            return answer(alloc, &core.claim(alloc, seat)?);
+            answer(alloc, &core.claim(alloc, deed.seat)?)
         }
         's' => {
             core.advance(alloc, steps)?;
-            return progress(alloc, core.progress());
+            progress(alloc, core.progress())
         }
-        'b' => core.broke(seat, key, Why::Link).is_ok(),
-        'n' => core.broke(seat, key, Why::NotCached).is_ok(),
-        'g' => core.give_back(seat, key).is_ok(),
-        _ => core.absorb(alloc, seat, key, reading).is_ok(),
-    };
-    Ok(format!(in alloc; "{}", if done { "+" } else { "-" })?)
+        _ => {
+            let sign = if end(alloc, core, deed)? { "+" } else { "-" };
+            Ok(format!(in alloc; "{sign}")?)
+        }
+    }
 }
 
-/// One thing of a session: what is done, by which seat, to the POM of which name and repository.
-type Deed<'a> = (char, u32, &'a str, u32);
-
-/// What came of a session, deed by deed.
+/// What came of a session, deed by deed, with a space before each.
 fn played<L: Ledger>(
     alloc: Global,
-    roots: &[&str],
-    eager: bool,
-    retries: u32,
-    limits: CoreLimits,
-    deeds: &[Deed],
+    start: Start,
+    deeds: &str,
     blank: Blank,
 ) -> Result<String, NoMemory>
     requires name { blank.name ≡ L.name }
@@ -69,64 +119,46 @@ fn played<L: Ledger>(
     requires some { 0 < blank.parts }
 {
     let mut steps: Steps<L> = Steps::new(blank);
-    let mut core = Core::new(alloc, ask(alloc, roots, 3)?, eager, retries, limits)?;
-    let mut out = String::new(alloc);
-    for (op, seat, name, repo) in deeds {
-        let key = key(alloc, name, *repo)?;
-        let reading = reading(alloc, name, *op)?;
-        let said = act(alloc, &mut core, &mut steps, *op, *seat, &key, reading)?;
-        out.push_str(said.as_str())?;
+    let asked = ask(alloc, start.roots, false)?;
+    let mut core = Core::new(alloc, asked, start.eager, start.retries, start.limits)?;
+    let mut told = String::new(alloc);
+    for word in deeds.split_ascii_whitespace() {
+        let said = act(alloc, &mut core, &mut steps, deed_of(word))?;
+        told.push_str(" ")?;
+        told.push_str(said.as_str())?;
     }
-    Ok(out)
+    Ok(told)
 }
 
-fn play(
-    alloc: Global,
-    roots: &[&str],
-    eager: bool,
-    retries: u32,
-    claims: u32,
-    hint_claims: u32,
-    deeds: &[Deed],
-) -> Result<String, NoMemory> {
-    let limits = CoreLimits {
-        claims,
-        hint_claims,
-    };
-    played::<Brand>(alloc, roots, eager, retries, limits, deeds, Blank::new(1))
+fn play(alloc: Global, start: Start, deeds: &str) -> Result<String, NoMemory> {
+    played::<Brand>(alloc, start, deeds, Blank::new(1))
 }
 
 #[test]
 fn sessions_end_alike(rt: HostRuntime) -> Result<(), Fail> {
     let alloc = rt.alloc();
-    let claims = [
-        ('c', 0, "a", 0),
-        ('c', 1, "a", 0),
-        ('c', 2, "a", 0),
-        ('c', 3, "a", 0),
-        ('p', 3, "a", 0),
-    ];
-    for (order, first, second) in [
-        (["a", "b", "c"], "b0c0", "c0"),
-        (["a", "c", "b"], "b0c0", "b0"),
-        (["b", "a", "c"], "a0c0", "c0"),
-        (["b", "c", "a"], "a0c0", "a0"),
-        (["c", "a", "b"], "a0b0", "b0"),
-        (["c", "b", "a"], "a0b0", "a0"),
+    let start = Start {
+        roots: "c a b",
+        eager: false,
+        retries: 0,
+        limits: CoreLimits {
+            claims: 9,
+            hint_claims: 9,
+        },
+    };
+    for (one, two, three, first, second) in [
+        ("p0a0", "p1b0", "p2c0", "b1p0c1p0", "c1p0"),
+        ("p0a0", "p2c0", "p1b0", "b1p0c1p0", "b1p0"),
+        ("p1b0", "p0a0", "p2c0", "a1p0c1p0", "c1p0"),
+        ("p1b0", "p2c0", "p0a0", "a1p0c1p0", "a1p0"),
+        ("p2c0", "p0a0", "p1b0", "a1p0b1p0", "b1p0"),
+        ("p2c0", "p1b0", "p0a0", "a1p0b1p0", "a1p0"),
     ] {
-        let mut deeds = Vec::from_array(alloc, claims)?;
-        for name in order {
-            let seat = match name {
-                "a" => 0,
-                "b" => 1,
-                _ => 2,
-            };
-            deeds.push(('p', seat, name, 0))?;
-            deeds.push(('s', 0, "a", 0))?;
-        }
-        deeds.push(('c', 3, "a", 0))?;
-        let told = play(alloc, &["c", "a", "b"], false, 0, 9, 9, deeds.as_slice())?;
-        let wanted = format!(in alloc; "a0b0c0N-+W13{first} +W13{second} +D2abc O")?;
+        let deeds = format!(in alloc; "c0 c1 c2 c3 p3a0 {one} s c3 {two} s c3 {three} s c3")?;
+        let told = play(alloc, start, deeds.as_str())?;
+        let wanted = format!(in alloc;
+            " a1p0 b1p0 c1p0 N - + W1:a1b1c1:{first} N + W1:a1b1c1:{second} N + D2:a1.0b1.0c1.0:3 O"
+        )?;
         assert_eq!(rt; told.as_str(), wanted.as_str());
     }
     Ok(())
@@ -135,47 +167,91 @@ fn sessions_end_alike(rt: HostRuntime) -> Result<(), Fail> {
 #[test]
 fn limits_breaks_and_hints(rt: HostRuntime) -> Result<(), Fail> {
     let alloc = rt.alloc();
-    let claim = |seat: u32| ('c', seat, "a", 0);
-    let few = [claim(0), claim(1), claim(2)];
-    let told = play(alloc, &["a", "b", "c"], false, 0, 2, 0, &few)?;
-    assert_eq!(rt; told.as_str(), "a0b0T");
-    let broken = [
-        claim(0),
-        ('b', 0, "a", 0),
-        claim(1),
-        ('g', 1, "a", 0),
-        claim(1),
-        ('b', 0, "a", 0),
-        claim(2),
-        ('b', 1, "a", 0),
-        claim(2),
-    ];
-    let told = play(alloc, &["a"], false, 1, 9, 0, &broken)?;
-    assert_eq!(rt; told.as_str(), "a0+a0+a0-N+Sa0");
-    let lacking = [
-        claim(0),
-        claim(1),
-        ('n', 0, "a", 0),
-        claim(2),
-        ('n', 1, "b", 0),
-        claim(2),
-    ];
-    let told = play(alloc, &["a", "b"], false, 3, 9, 0, &lacking)?;
-    assert_eq!(rt; told.as_str(), "a0b0+N+Sa0");
-    let eager = [
-        claim(0),
-        claim(1),
-        claim(2),
-        claim(3),
-        ('p', 1, "a", 1),
-        ('s', 0, "a", 0),
-        ('a', 0, "a", 0),
-        ('s', 0, "a", 0),
-        claim(3),
-    ];
-    let told = play(alloc, &["a"], true, 0, 9, 9, &eager)?;
-    assert_eq!(rt; told.as_str(), "a0a1a2N+W11a0 +D2a O");
-    let told = play(alloc, &["a"], true, 0, 9, 1, &[claim(0), claim(1)])?;
-    assert_eq!(rt; told.as_str(), "a0N");
+    for (roots, eager, retries, claims, hint_claims, deeds, wanted) in [
+        // All claims were made: a need is free, or none is.
+        ("a b c", false, 0, 2, 0, "c0 c1 c2", " a1p0 b1p0 T"),
+        ("a b", false, 0, 2, 0, "c0 c1 c2", " a1p0 b1p0 N"),
+        ("a b", false, 0, 1, 0, "c0 b0a0 c1", " a1p0 + T"),
+        // A key breaks at its second failure, and not by being given back.
+        (
+            "a",
+            false,
+            1,
+            9,
+            0,
+            "c0 b0a0 c1 g1a0 c1 b0a0 c2 b1a0 c2",
+            " a1p0 + a1p0 + a1p0 - N + Sa1p0",
+        ),
+        // What the cache lacks breaks at once; another need is still in flight, or free.
+        (
+            "a b",
+            false,
+            3,
+            9,
+            0,
+            "c0 c1 n0a0 c2 n1b0 c2",
+            " a1p0 b1p0 + N + Sa1p0",
+        ),
+        (
+            "a b",
+            false,
+            0,
+            9,
+            0,
+            "c0 b0a0 c1 b1b0 c2",
+            " a1p0 + b1p0 + Sa1p0",
+        ),
+        (
+            "a b",
+            false,
+            0,
+            9,
+            0,
+            "c0 b0a0 c1 p1b0 c2",
+            " a1p0 + b1p0 + Sa1p0",
+        ),
+        // One root in three repositories.
+        (
+            "a",
+            true,
+            0,
+            9,
+            9,
+            "c0 c1 c2 c3 p1a1 s a0a0 s c3",
+            " a1p0 a1p1 a1p2 N + W1:a1:a1p0 + D2:a1.1:1 O",
+        ),
+        ("a", true, 0, 9, 1, "c0 c1", " a1p0 N"),
+        // A need comes before hints; hints that break end nothing, and none is claimed alone.
+        (
+            "a b",
+            true,
+            0,
+            9,
+            9,
+            "c0 c1 c2 b2a1 b0a0 b1b0 c3",
+            " a1p0 b1p0 a1p1 + + + Sa1p0",
+        ),
+        (
+            "a",
+            true,
+            0,
+            9,
+            9,
+            "c0 c1 b0a0 c2 b1a1 c3",
+            " a1p0 a1p1 + a1p2 + N",
+        ),
+    ] {
+        let start = Start {
+            roots,
+            eager,
+            retries,
+            limits: CoreLimits {
+                claims,
+                hint_claims,
+            },
+        };
+        let told = play(alloc, start, deeds)?;
+        assert_eq!(rt; told.as_str(), wanted);
+    }
     Ok(())
 }
