@@ -6,6 +6,7 @@ ghost use Rattle.res_base.specs.declared.key.Role.TheVariants.{Pom};
 use super::parts::{answer, ask, coord, key, pom, progress};
 use arrival_core::{Core, CoreLimits, Why};
 use res_base::{List, NoMemory, Reading, Steps};
+use resolution::Ask;
 use std::alloc::Global;
 use std::marker::Brand;
 use std::sync::ledger::{Blank, Ledger};
@@ -13,8 +14,7 @@ use std::test::Fail;
 
 /// How a session begins.
 #[derive(Clone, Copy, Drop)]
-struct Start<'a> {
-    roots: &'a str,
+struct Start {
     eager: bool,
     retries: u32,
     limits: CoreLimits,
@@ -107,38 +107,48 @@ fn act<L: Ledger>(
     }
 }
 
+fn deeds_of(alloc: Global, words: &str) -> Result<Vec<Deed>, NoMemory> {
+    let mut deeds = Vec::new(alloc);
+    for word in words.split_ascii_whitespace() {
+        deeds.push(deed_of(word))?;
+    }
+    Ok(deeds)
+}
+
 /// What came of a session, deed by deed, with a space before each.
 fn played<L: Ledger>(
     alloc: Global,
+    asked: Ask,
     start: Start,
-    deeds: &str,
+    deeds: &[Deed],
     blank: Blank,
 ) -> Result<String, NoMemory>
     requires name { blank.name ≡ L.name }
     requires parts { blank.parts ≡ L.parts }
     requires some { 0 < blank.parts }
+    requires repos { asked.repos ≡ 3 }
 {
     let mut steps: Steps<L> = Steps::new(blank);
-    let asked = ask(alloc, start.roots, false)?;
     let mut core = Core::new(alloc, asked, start.eager, start.retries, start.limits)?;
     let mut told = String::new(alloc);
-    for word in deeds.split_ascii_whitespace() {
-        let said = act(alloc, &mut core, &mut steps, deed_of(word))?;
+    for deed in deeds {
+        let said = act(alloc, &mut core, &mut steps, *deed)?;
         told.push_str(" ")?;
         told.push_str(said.as_str())?;
     }
     Ok(told)
 }
 
-fn play(alloc: Global, start: Start, deeds: &str) -> Result<String, NoMemory> {
-    played::<Brand>(alloc, start, deeds, Blank::new(1))
+fn play(alloc: Global, roots: &str, start: Start, words: &str) -> Result<String, NoMemory> {
+    let asked = ask(alloc, roots, false)?;
+    let deeds = deeds_of(alloc, words)?;
+    played::<Brand>(alloc, asked, start, deeds.as_slice(), Blank::new(1))
 }
 
 #[test]
 fn sessions_end_alike(rt: HostRuntime) -> Result<(), Fail> {
     let alloc = rt.alloc();
     let start = Start {
-        roots: "c a b",
         eager: false,
         retries: 0,
         limits: CoreLimits {
@@ -155,7 +165,7 @@ fn sessions_end_alike(rt: HostRuntime) -> Result<(), Fail> {
         ("p2c0", "p1b0", "p0a0", "a1p0b1p0", "a1p0"),
     ] {
         let deeds = format!(in alloc; "c0 c1 c2 c3 p3a0 {one} s c3 {two} s c3 {three} s c3")?;
-        let told = play(alloc, start, deeds.as_str())?;
+        let told = play(alloc, "c a b", start, deeds.as_str())?;
         let wanted = format!(in alloc;
             " a1p0 b1p0 c1p0 N - + W1:a1b1c1:{first} N + W1:a1b1c1:{second} N + D2:a1.0b1.0c1.0:3 O"
         )?;
@@ -242,7 +252,6 @@ fn limits_breaks_and_hints(rt: HostRuntime) -> Result<(), Fail> {
         ),
     ] {
         let start = Start {
-            roots,
             eager,
             retries,
             limits: CoreLimits {
@@ -250,7 +259,7 @@ fn limits_breaks_and_hints(rt: HostRuntime) -> Result<(), Fail> {
                 hint_claims,
             },
         };
-        let told = play(alloc, start, deeds)?;
+        let told = play(alloc, roots, start, deeds)?;
         assert_eq!(rt; told.as_str(), wanted);
     }
     Ok(())
