@@ -254,6 +254,7 @@ fn random_sessions(rt: HostRuntime) -> Result<(), Fail> {
         ("ef", 4000, 4000, 3, 400, 20),
         ("l", 2, 4000, 4, 300, 10),
         ("el", 1, 40, 8, 300, 5),
+        ("e", 4000, 20, 9, 300, 20),
         ("efl", 0, 9, 6, 100, 3),
     ] {
         let tally = counted(alloc, way(flags, retries, claims, ends, turns))?;
