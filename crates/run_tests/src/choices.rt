@@ -1,5 +1,5 @@
 //! Which modules and versions are settled, and how that is printed.
-use crate::runs::{Case, run};
+use crate::runs::{Case, first_other, run};
 use std::test::Fail;
 
 const ONE: &[&str] = &["r1 org.a:a:1.0"];
@@ -80,6 +80,21 @@ const SETTLED: &[Case] = &[
         PAGE,
         "resolve --repositories http://r1|http://r2 x:a:1",
         "0\nx:a:1:default\n",
+    ),
+    (
+        SECOND,
+        "resolve --repositories http://r1|http://r2|http://r3 --eager on x:a:1",
+        "0\nx:a:1:default\nx:b:1:default\n",
+    ),
+    (
+        PAGE,
+        "resolve --repositories http://r1|http://r2 --eager on x:a:1",
+        "0\nx:a:1:default\n",
+    ),
+    (
+        &["r1 x:a:1 x:b:1!*:*", "r1 x:b:1 x:c:1"],
+        "resolve --repositories http://r1 x:a:1",
+        "0\nx:a:1:default\nx:b:1:default\n",
     ),
     (
         EXCLUDING,
@@ -231,13 +246,15 @@ const PROJECTS: &[Case] = &[
 ];
 
 #[test]
-fn modules_are_settled(rt: HostRuntime) -> Result<(), Fail> {
-    for cases in [SETTLED, VERSIONS, PROJECTS] {
-        for (rows, words, said) in cases {
-            let ran = run(&rt, rt.alloc(), rows, words)?;
-            assert_eq!(rt; ran.said.as_str(), *said, "{words}");
-        }
-    }
+fn versions_are_chosen(rt: HostRuntime) -> Result<(), Fail> {
+    assert_eq!(rt; first_other(&rt, rt.alloc(), SETTLED)?, None);
+    assert_eq!(rt; first_other(&rt, rt.alloc(), VERSIONS)?, None);
+    Ok(())
+}
+
+#[test]
+fn projects_are_built(rt: HostRuntime) -> Result<(), Fail> {
+    assert_eq!(rt; first_other(&rt, rt.alloc(), PROJECTS)?, None);
     Ok(())
 }
 

@@ -19,6 +19,12 @@ const DIAMOND: &[&str] = &[
     "r1 x:c:1.10",
 ];
 
+const FETCH: &str = "fetch --repositories http://r1 x:a:1";
+
+const REFRESH: &str = "fetch --repositories http://r1 --mode refresh x:a:1";
+
+const LINE: &str = "0\nhttp/r1/x/a/1/a-1.jar\n";
+
 /// A world, the calls of the link that fail, the words, and what is said.
 type Case = (
     &'static [&'static str],
@@ -85,10 +91,10 @@ fn the_file_of_the_call_that_fails_is_named(rt: HostRuntime) -> Result<(), Fail>
         let line = format!(in alloc; "3\n! coursier: repository: http://r1/x/a/1/{file}\n")?;
         assert_eq!(rt; fetched(&rt, alloc, call, once)?, line, "call {call}");
         let said = fetched(&rt, alloc, call, twice)?;
-        assert_eq!(rt; said.as_str(), "0\nhttp/r1/x/a/1/a-1.jar\n", "call {call}");
+        assert_eq!(rt; said.as_str(), LINE, "call {call}");
     }
     let said = fetched(&rt, alloc, 6, once)?;
-    assert_eq!(rt; said.as_str(), "0\nhttp/r1/x/a/1/a-1.jar\n");
+    assert_eq!(rt; said.as_str(), LINE);
     Ok(())
 }
 
@@ -110,32 +116,57 @@ fn what_went_out_before_a_stream_failed_is_a_prefix(rt: HostRuntime) -> Result<(
     Ok(())
 }
 
-/// Runs a command over a disk of which the call with this number fails.
+/// An empty disk, or the one that a fetch left.
+fn disk_before<R: Threads + Sync>(rt: &R, alloc: Global, is_used: bool) -> Result<MemDisk, Fail> {
+    if !is_used {
+        return Ok(MemDisk::new(alloc));
+    }
+    let Ran { disk, .. } = run(rt, alloc, JAR, FETCH)?;
+    Ok(disk)
+}
+
+/// What a command says of whose disk the call with this number fails.
 fn failing_at<R: Threads + Sync>(
     rt: &R,
     alloc: Global,
-    disk: MemDisk,
+    is_used: bool,
     call: u64,
     words: &str,
 ) -> Result<String, Fail> {
+    let disk = disk_before(rt, alloc, is_used)?;
     let disk = FailDisk::new(alloc, disk, List::from_slice(alloc, &[call])?);
     let Ran { said, .. } = run_over(rt, alloc, JAR, &[], disk, 1000, words)?;
     Ok(said)
 }
 
-#[test]
-fn the_call_of_the_disk_that_fails_is_named(rt: HostRuntime) -> Result<(), Fail> {
-    let alloc = rt.alloc();
-    let fetch = "fetch --repositories http://r1 x:a:1";
-    let refresh = "fetch --repositories http://r1 --mode refresh x:a:1";
-    let said = failing_at(&rt, alloc, MemDisk::new(alloc), 0, fetch)?;
-    assert_eq!(rt; said.as_str(), "4\n! coursier: disk: list\n");
-    for call in 0..20 {
-        let said = failing_at(&rt, alloc, MemDisk::new(alloc), call, fetch)?;
-        assert!(rt; said.starts_with("4\n! coursier: disk: "), "call {call}");
-        let Ran { disk, .. } = run(&rt, alloc, JAR, fetch)?;
-        let said = failing_at(&rt, alloc, disk, call, refresh)?;
-        assert!(rt; said.starts_with("4\n! coursier: disk: "), "call {call}");
+/// How many calls of the disk there are, of at most 80, whose failing is told, where these are the
+/// first ones, and every later one changes nothing.
+fn told_calls<R: Threads + Sync>(
+    rt: &R,
+    alloc: Global,
+    is_used: bool,
+    words: &str,
+) -> Result<Option<u64>, Fail> {
+    let mut told = 0;
+    for call in 0..80u64 {
+        let said = failing_at(rt, alloc, is_used, call, words)?;
+        if told == call && said.starts_with("4\n! coursier: disk: ") {
+            told += 1;
+        } else if said.as_str() != LINE {
+            return Ok(None);
+        }
     }
+    Ok(Some(told))
+}
+
+#[test]
+fn a_call_of_the_disk_that_fails_is_named(rt: HostRuntime) -> Result<(), Fail> {
+    let alloc = rt.alloc();
+    let said = failing_at(&rt, alloc, false, 0, FETCH)?;
+    assert_eq!(rt; said.as_str(), "4\n! coursier: disk: list\n");
+    let first = told_calls(&rt, alloc, false, FETCH)?;
+    assert!(rt; matches!(first, Some(1..80)), "{first:?}");
+    let second = told_calls(&rt, alloc, true, REFRESH)?;
+    assert!(rt; matches!(second, Some(1..80)), "{second:?}");
     Ok(())
 }

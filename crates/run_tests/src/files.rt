@@ -1,5 +1,5 @@
 //! Files that are fetched, and what the cache then holds.
-use crate::runs::{Case, held, run};
+use crate::runs::{Case, first_other, held, run};
 use std::test::Fail;
 
 const JAR: &str = "http/r1/x/a/1/a-1.jar";
@@ -56,10 +56,7 @@ const CASES: &[Case] = &[
 
 #[test]
 fn files_are_fetched(rt: HostRuntime) -> Result<(), Fail> {
-    for (rows, words, said) in CASES {
-        let ran = run(&rt, rt.alloc(), rows, words)?;
-        assert_eq!(rt; ran.said.as_str(), *said, "{words}");
-    }
+    assert_eq!(rt; first_other(&rt, rt.alloc(), CASES)?, None);
     Ok(())
 }
 

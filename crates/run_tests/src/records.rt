@@ -24,6 +24,14 @@ const OLD: &str = "coursier-cache 1 sha1|none a9993e364706816aba3e25717850c26c9c
 const NEW: &str =
     "coursier-cache 2 sha1|none a9993e364706816aba3e25717850c26c9cd0d89d ba7816bf8f01cfea414140de5dae2223b00361a396177a9cb410ff61f20015ad 3 1000\n";
 
+/// The numbers that pick what a crash leaves.
+const PICKS: [&[u64]; 4] = [
+    &[],
+    &[1, 1, 1, 1, 1, 1],
+    &[0, 3, 0, 3, 0, 3],
+    &[2, 2, 2, 2, 2, 2],
+];
+
 /// Writes a record again, in format 1.
 fn write_first_format(alloc: Global, disk: &mut MemDisk, name: &str) -> Result<(), Fail> {
     let line = held(alloc, disk, name)?;
@@ -89,23 +97,16 @@ fn stopped<R: Threads + Sync>(
 #[test]
 fn a_stop_leaves_the_old_or_the_new_record(rt: HostRuntime) -> Result<(), Fail> {
     let alloc = rt.alloc();
-    let picks: [&[u64]; 4] = [
-        &[],
-        &[1, 1, 1, 1, 1, 1],
-        &[0, 3, 0, 3, 0, 3],
-        &[2, 2, 2, 2, 2, 2],
-    ];
-    for calls in 0..40 {
-        for picks in picks {
-            let mut disk = stopped(&rt, alloc, calls, picks)?;
-            let record = held(alloc, &mut disk, JAR)?;
-            assert!(rt;
-                record.as_str() == OLD || record.as_str() == NEW,
-                "after {calls}"
-            );
-            let bytes = held(alloc, &mut disk, "http/r1/x/a/1/a-1.jar")?;
-            assert_eq!(rt; bytes.as_str(), "abc", "after {calls}");
-        }
+    for case in 0..160usize {
+        let (calls, picks) = (case as u64 / 4, PICKS[case % 4]);
+        let mut disk = stopped(&rt, alloc, calls, picks)?;
+        let record = held(alloc, &mut disk, JAR)?;
+        assert!(rt;
+            record.as_str() == OLD || record.as_str() == NEW,
+            "after {calls}"
+        );
+        let bytes = held(alloc, &mut disk, "http/r1/x/a/1/a-1.jar")?;
+        assert_eq!(rt; bytes.as_str(), "abc", "after {calls}");
     }
     Ok(())
 }

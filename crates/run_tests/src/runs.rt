@@ -104,6 +104,21 @@ pub(crate) fn run<R: Threads + Sync>(
     run_over(rt, alloc, rows, &[], MemDisk::new(alloc), 1000, words)
 }
 
+/// The words of the first command that says something else than it should, and what it says.
+pub(crate) fn first_other<R: Threads + Sync>(
+    rt: &R,
+    alloc: Global,
+    cases: &[Case],
+) -> Result<Option<String>, Fail> {
+    for (rows, words, wanted) in cases {
+        let Ran { said, .. } = run(rt, alloc, rows, words)?;
+        if said.as_str() != *wanted {
+            return Ok(Some(format!(in alloc; "{words}: {said}")?));
+        }
+    }
+    Ok(None)
+}
+
 /// What a file holds, of which it has at most 400 bytes, and `-` where there is no such file.
 pub(crate) fn held<D: Disk>(alloc: Global, disk: &mut D, name: &str) -> Result<String, Fail> {
     let mut room = [0; 400];

@@ -7,6 +7,8 @@ use std::thread::Threads;
 
 const FETCH: &str = "fetch --repositories http://r1 x:a:1";
 
+const LINE: &str = "0\nhttp/r1/x/a/1/a-1.jar\n";
+
 const REFRESH: &str = "fetch --repositories http://r1 --mode refresh x:a:1";
 
 /// A world with a POM and a jar.
@@ -62,18 +64,13 @@ fn second_run<R: Threads + Sync>(
 #[test]
 fn a_stop_leaves_each_file_absent_or_whole(rt: HostRuntime) -> Result<(), Fail> {
     let alloc = rt.alloc();
-    for calls in 0..60 {
-        for picks in PICKS {
-            let mut disk = stopped(&rt, alloc, MemDisk::new(alloc), calls, picks, FETCH)?;
-            assert!(rt; is_whole(alloc, &mut disk)?, "after {calls}");
-            let (said, parts) = second_run(&rt, alloc, disk)?;
-            assert_eq!(rt;
-                said.as_str(),
-                "0\nhttp/r1/x/a/1/a-1.jar\n",
-                "after {calls}"
-            );
-            assert_eq!(rt; parts, 0, "after {calls}");
-        }
+    for case in 0..240usize {
+        let (calls, picks) = (case as u64 / 4, PICKS[case % 4]);
+        let mut disk = stopped(&rt, alloc, MemDisk::new(alloc), calls, picks, FETCH)?;
+        assert!(rt; is_whole(alloc, &mut disk)?, "after {calls}");
+        let (said, parts) = second_run(&rt, alloc, disk)?;
+        assert_eq!(rt; said.as_str(), LINE, "after {calls}");
+        assert_eq!(rt; parts, 0, "after {calls}");
     }
     Ok(())
 }
@@ -81,19 +78,14 @@ fn a_stop_leaves_each_file_absent_or_whole(rt: HostRuntime) -> Result<(), Fail> 
 #[test]
 fn a_stop_of_a_refresh_leaves_each_file_absent_or_whole(rt: HostRuntime) -> Result<(), Fail> {
     let alloc = rt.alloc();
-    for calls in 0..60 {
-        for picks in PICKS {
-            let Ran { disk, .. } = run(&rt, alloc, ROWS, FETCH)?;
-            let mut disk = stopped(&rt, alloc, disk, calls, picks, REFRESH)?;
-            assert!(rt; is_whole(alloc, &mut disk)?, "after {calls}");
-            let (said, parts) = second_run(&rt, alloc, disk)?;
-            assert_eq!(rt;
-                said.as_str(),
-                "0\nhttp/r1/x/a/1/a-1.jar\n",
-                "after {calls}"
-            );
-            assert_eq!(rt; parts, 0, "after {calls}");
-        }
+    for case in 0..240usize {
+        let (calls, picks) = (case as u64 / 4, PICKS[case % 4]);
+        let Ran { disk, .. } = run(&rt, alloc, ROWS, FETCH)?;
+        let mut disk = stopped(&rt, alloc, disk, calls, picks, REFRESH)?;
+        assert!(rt; is_whole(alloc, &mut disk)?, "after {calls}");
+        let (said, parts) = second_run(&rt, alloc, disk)?;
+        assert_eq!(rt; said.as_str(), LINE, "after {calls}");
+        assert_eq!(rt; parts, 0, "after {calls}");
     }
     Ok(())
 }
