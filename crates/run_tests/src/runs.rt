@@ -1,6 +1,5 @@
 //! Commands over what stands in memory.
-use crate::worlds::world;
-use case_words::words::pieces_of;
+use crate::worlds::{words_in, world};
 use coursier_run::{Served, run_still};
 use disk_base::{Disk, MemDisk, Read};
 use link_base::{MemClock, MemLink, MemSink};
@@ -22,13 +21,10 @@ pub(crate) struct Ran<D> {
     pub(crate) disk: D,
 }
 
-/// The words of a command, between which stands one space. No text has no words.
+/// The words of a command.
 fn words_of(alloc: Global, text: &str) -> Result<Vec<String>, AllocError> {
     let mut words = Vec::new(alloc);
-    if text.is_empty() {
-        return Ok(words);
-    }
-    for word in pieces_of(alloc, text, ' ')?.iter() {
+    for word in words_in(alloc, text)?.iter() {
         words.push(String::from_str(alloc, word)?)?;
     }
     Ok(words)

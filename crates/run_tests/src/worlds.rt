@@ -78,27 +78,40 @@ fn filled(alloc: Global, text: &str) -> Result<String, AllocError> {
     Ok(made)
 }
 
+/// What stands before the first space, and what stands behind it.
+fn first_word(text: &str) -> (&str, &str) {
+    text.split_once(' ').unwrap_or((text, ""))
+}
+
+/// The words of a text, between which stands one space. No text has no words.
+pub(crate) fn words_in(alloc: Global, text: &str) -> Result<Vec<&str>, AllocError> {
+    if text.is_empty() {
+        return Ok(Vec::new(alloc));
+    }
+    pieces_of(alloc, text, ' ')
+}
+
 /// Adds the POM or the listing that the words of a row describe.
 fn add_described(
     alloc: Global,
     world: &mut World,
     repository: &str,
-    rest: &str,
+    text: &str,
 ) -> Result<(), Fail> {
-    let words = pieces_of(alloc, rest, ' ')?;
-    let (coord, others) = words.split_first().unwrap_or((&"", &[]));
+    let (coord, others) = first_word(text);
+    let others = words_in(alloc, others)?;
     let (org, name, version) = parts_of(coord);
     let folder = org.replace(alloc, ".", "/")?;
     if version.is_empty() {
         let url = format!(in alloc; "http://{repository}/{folder}/{name}/maven-metadata.xml")?;
-        let text = listing_text(alloc, others)?;
+        let text = listing_text(alloc, others.as_slice())?;
         world.add(alloc, &url, text.as_bytes())?;
         return Ok(());
     }
     let url = format!(in alloc;
         "http://{repository}/{folder}/{name}/{version}/{name}-{version}.pom"
     )?;
-    let text = pom_text(alloc, coord, others)?;
+    let text = pom_text(alloc, coord, others.as_slice())?;
     world.add(alloc, &url, text.as_bytes())?;
     Ok(())
 }
@@ -111,7 +124,7 @@ fn add_described(
 pub(crate) fn world(alloc: Global, rows: &[&str]) -> Result<World, Fail> {
     let mut world = World::new(alloc);
     for row in rows {
-        let (place, rest) = row.split_once(' ').unwrap_or((row, ""));
+        let (place, rest) = first_word(row);
         if place.contains(':') {
             world.add(alloc, place, filled(alloc, rest)?.as_bytes())?;
         } else {
