@@ -222,6 +222,39 @@ const MOVED: &[&str] = &[
     "r1 y:a:1",
 ];
 
+/// `x:a:1` manages a version of what `x:b:1` depends on.
+const STEERED: &[&str] = &[
+    "http://r1/x/a/1/a-1.pom <project>@x:a:1@<dependencyManagement><dependencies><dependency>@x:m:2@</dependency></dependencies></dependencyManagement><dependencies><dependency>@x:b:1@</dependency></dependencies></project>",
+    "r1 x:b:1 x:m:1",
+    "r1 x:c:1 x:m:2",
+    "r1 x:m:1",
+    "r1 x:m:2",
+    MANAGED,
+];
+
+const STEERS: &[Case] = &[
+    (
+        STEERED,
+        "resolve --repositories http://r1 x:a:1",
+        "0\nx:a:1:default\nx:b:1:default\nx:m:2:default\n",
+    ),
+    (
+        STEERED,
+        "resolve --repositories http://r1 x:b:1",
+        "0\nx:b:1:default\nx:m:1:default\n",
+    ),
+    (
+        STEERED,
+        "resolve --repositories http://r1 --bom x:i:1 x:a:1",
+        "0\nx:a:1:default\nx:b:1:default\nx:m:1:default\n",
+    ),
+    (
+        STEERED,
+        "resolve --repositories http://r1 --bom x:i:1 x:c:1",
+        "0\nx:c:1:default\nx:m:2:default\n",
+    ),
+];
+
 const PROJECTS: &[Case] = &[
     (
         HEIRS,
@@ -255,6 +288,7 @@ fn versions_are_chosen(rt: HostRuntime) -> Result<(), Fail> {
 #[test]
 fn projects_are_built(rt: HostRuntime) -> Result<(), Fail> {
     assert_eq!(rt; first_other(&rt, rt.alloc(), PROJECTS)?, None);
+    assert_eq!(rt; first_other(&rt, rt.alloc(), STEERS)?, None);
     Ok(())
 }
 

@@ -19,6 +19,10 @@ const CASES: &[(&str, &str)] = &[
         "repositories 0",
     ),
     ("resolve --repositories http://r1 x:a", "roots 0"),
+    (
+        "resolve --repositories http://r1 --bom x:i:[1,2) org.a:a:1.0",
+        "bom 0",
+    ),
 ];
 
 #[test]

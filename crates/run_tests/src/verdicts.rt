@@ -116,6 +116,25 @@ const CASES: &[Case] = &[
         "resolve --repositories http://r1 x:a:1",
         "1\nnot-found x:a:1\n  http://r1 damaged sha1 0000000000000000000000000000000000000000 a9993e364706816aba3e25717850c26c9cd0d89d\n",
     ),
+    (
+        &["r1 org.a:a:1.0"],
+        "resolve --repositories http://r1 --bom x:z:9 org.a:a:1.0",
+        "1\nnot-found x:z:9\n  http://r1 absent\n",
+    ),
+    (
+        &[
+            "http://r1/x/q/1/q-1.pom <project>@x:q:1@<dependencyManagement><dependencies><dependency>@x:q:1@<type>pom</type><scope>import</scope></dependency></dependencies></dependencyManagement></project>",
+        ],
+        "resolve --repositories http://r1 x:q:1",
+        "1\nrefused x:q:1 import-cycle x:q:1 x:q:1\n",
+    ),
+    (
+        &[
+            "http://r1/x/a/1/a-1.pom <project>@x:a:1@<properties><v>${v}</v></properties><dependencies><dependency>@x:m:${v}@</dependency></dependencies></project>",
+        ],
+        "resolve --repositories http://r1 x:a:1",
+        "1\nclash x:m bad-constraint 0\n  x:a:1 asks ${v}\n",
+    ),
 ];
 
 #[test]
