@@ -129,16 +129,17 @@ may_say says among listed job core desk before now finishes.TooMany fit asks set
 may_say says among listed job core desk before now (finishes.Disk call) fit asks settings history up ends = tt
 may_say says among listed job core desk before now finishes.Memory fit asks settings history up ends = tt
 
-none_known : (all : Known) → Grows (known_in []) all
+pub none_known : (all : Known) → Grows (known_in []) all
 none_known all key reading e = absurd cc
 
 pub session_of : (World : Rows → Type 0) (job : Job) (moment : ℕ) (ask : Ask) (old new : Desk) (before now : Counts)
-    (finish : Finish) (said : Said) → ask ≡ job.ask → old ≡ fresh_desk job moment
+    (finish : Finish) (said : Said) → IsFit job → ask ≡ job.ask → old ≡ fresh_desk job moment
     → IsWorked (resolver_of ask) old new before now finish
     → ((w : Rows) → World w → StaysTrue (whole_of old.plan w) old.history new.history)
     → IsSaidAt job new.history finish said → IsSession World job moment before now said
-session_of World job moment ask old new before now finish said is fresh worked stays says =
+session_of World job moment ask old new before now finish said fit is fresh worked stays says =
     record {
+      fit = fit;
       desk = new;
       finish = finish;
       worked =
