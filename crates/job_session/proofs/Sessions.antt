@@ -1,6 +1,6 @@
 -- How a session begins and ends.
-use Rattle.std.proofs.Common.{◌≡◌, ◌⊎◌, ◌<◌, ◌≤◌, inl, inr, ℕ, Bool, true, false, ◌&&◌, Option, None, Some, List, [], ◌∷◌, Result, Ok, Err, refl, sym, ◌∙◌, ap, subst, true≢false, arith}
-use Rattle.std.specs.Prelude.{IfOk, length}
+use Rattle.std.proofs.Common.{◌≡◌, ◌<◌, inl, inr, ℕ, Bool, true, false, ◌&&◌, Option, None, Some, List, [], ◌∷◌, Result, Ok, Err, refl, sym, ◌∙◌, ap, subst, true≢false, arith}
+use Rattle.std.specs.Prelude.{IfOk}
 use Rattle.std.specs.List.{list_all}
 use Rattle.arrival_core.specs.Cores.{State}
 use Rattle.arrival_core.specs.Resolving.{resolver_of, standing_of}
@@ -11,7 +11,6 @@ use Rattle.claim_rules.specs.Histories.{History, known_in}
 use Rattle.claim_rules.specs.Least.{least}
 use Rattle.claim_rules.specs.Sessions.{is_known, is_over, is_over_at, needs}
 use Rattle.claim_rules.specs.declared.claim.Claim.{Claim}
-use Rattle.claim_rules.specs.declared.claim.Claim.TheVariants as claims
 use Rattle.claim_rules.specs.declared.settings.Settings.{Settings}
 use Rattle.disk_base.specs.Images.{Image}
 use Rattle.disk_base.specs.Names.{Names}
