@@ -1,16 +1,15 @@
 -- What follows from how a call ends.
-use Rattle.std.proofs.Common.{◌≡◌, ◌⊎◌, ◌≤◌, ℕ, List, length, Ok, Err, inl, inr, ⊎_elim, arith, sym, ◌∙◌, ap, subst, refl}
+use Rattle.std.proofs.Common.{◌≡◌, ◌⊎◌, ◌≤◌, ℕ, List, length, Err, inl, inr, ⊎_elim, arith, sym, ◌∙◌, ap, subst, refl}
 use Rattle.cli_words.specs.Words.{job_in}
-use Rattle.command_lines.specs.Refusals.{line_of, said_of}
+use Rattle.command_lines.specs.Refusals.{said_of}
 use Rattle.command_lines.specs.declared.refusals.Refusal.TheVariants as refusals
 use Rattle.job_session.specs.Answers.{files_of}
-use Rattle.line_streams.specs.Outcomes.{Streams, IsTold, IsCut, IsCutErr, IsForOut, IsSaid, whole, cut_out, cut_err, Ends, says, no_memory}
-use Rattle.line_streams.specs.Said.{err_of, memory_line, status_of}
+use Rattle.line_streams.specs.Outcomes.{Streams, IsTold, IsCut, IsCutErr, IsForOut, whole, cut_out, cut_err, Ends, says, no_memory}
+use Rattle.line_streams.specs.Said.{err_of, status_of}
 use Rattle.line_streams.specs.declared.said.Said.{Said}
 use Rattle.pool_rules.specs.Counts.{Counts}
 use Rattle.res_base.specs.Causes.{Rose}
 use Rattle.res_base.specs.Known.{known_of}
-use Rattle.word_values.specs.declared.job.Job.{Job}
 use Rattle.word_values.specs.declared.refusals.WordKind.{WordKind}
 use Rattle.word_values.specs.declared.refusals.WordsErr.TheVariants.{BadWords}
 use Rattle.coursier_run.specs.Justified.{IsJustified, refused, done}

@@ -1,17 +1,16 @@
 -- What is said, by the status that goes with it.
-use Rattle.std.proofs.Common.{◌≡◌, ◌⊎◌, ◌≤◌, ◌<◌, ◌+◌, ℕ, Bool, true, false, List, Ok, Err, Some, inl, inr, ⊎_elim, arith, refl, sym, ◌∙◌, ap, subst, length}
+use Rattle.std.proofs.Common.{◌≡◌, ◌⊎◌, ◌≤◌, ◌<◌, ◌+◌, ℕ, Bool, true, false, List, Ok, Err, Some, inl, inr, arith, refl, sym, ◌∙◌, subst, length}
 use Rattle.arrival_core.specs.Resolving.{resolver_of}
 use Rattle.cache_policy.specs.declared.Mode.{Mode}
 use Rattle.cache_policy.specs.declared.Mode.TheVariants.{Missing, Offline, Refresh}
 use Rattle.cli_words.specs.Words.{job_in}
-use Rattle.command_lines.specs.Refusals.{said_of, status_of as refusal_status}
+use Rattle.command_lines.specs.Refusals.{said_of}
 use Rattle.command_lines.specs.Rendered.{all_came, fetched_as, rendered_of, settled_as}
 use Rattle.command_lines.specs.declared.refusals.Refusal.TheVariants as refusals
 use Rattle.digest_check.specs.KeyAnswers.{key_url}
 use Rattle.disk_base.specs.declared.disk_errors.DiskCall.{DiskCall}
 use Rattle.job_session.specs.Beginnings.{fresh_desk, settings_for}
-use Rattle.job_session.specs.Answers.{IsSaidAt, IsSession, WantsKnown, files_of, lacks, lacks_by, printed}
-use Rattle.line_streams.specs.Said.{status_of}
+use Rattle.job_session.specs.Answers.{IsSaidAt, IsSession, WantsKnown, files_of, lacks_by, printed}
 use Rattle.line_streams.specs.declared.said.Said.{Said}
 use Rattle.pool_rules.specs.Boards.{Desk}
 use Rattle.pool_rules.specs.Counts.{Counts, RiseBeside}
@@ -23,7 +22,7 @@ use Rattle.claim_rules.specs.Resolvers.{IsLawful, Resolver}
 use Rattle.claim_rules.specs.Sessions.{needed as all_needed}
 use Rattle.claim_rules.specs.declared.why.Why.{Why}
 use Rattle.class_path.specs.declared.rows.FileRow.{FileRow}
-use Rattle.res_base.specs.Causes.{Rose, count_end}
+use Rattle.res_base.specs.Causes.{Rose}
 use Rattle.res_base.specs.Known.{Grows, Known, known_of}
 use Rattle.res_base.specs.Members.{Among, number_of}
 use Rattle.res_base.specs.Names.{key_eq}
@@ -40,7 +39,7 @@ use Rattle.word_values.specs.declared.job.Command.TheVariants as commands
 use Rattle.word_values.specs.declared.job.Job.{Job}
 use Rattle.word_values.specs.declared.refusals.WordKind.{WordKind}
 use Rattle.word_values.specs.declared.refusals.WordsErr.TheVariants.{BadWords}
-use Rattle.coursier_run.specs.Justified.{IsDone, not_opened, worked, IsDoneBy, cached, sampled, IsJustified, IsSampleOf, refused, done}
+use Rattle.coursier_run.specs.Justified.{not_opened, worked, cached, sampled, IsJustified, IsSampleOf, refused, done}
 use Rattle.coursier_run.specs.Promises.{IsVerdictIn, needed_in, whole_for, world_by}
 use Rattle.link_base.specs.Links.{Rows}
 use Rattle.resolution.specs.declared.ask.Ask.{Ask}

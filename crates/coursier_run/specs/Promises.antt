@@ -1,5 +1,5 @@
 -- What the top call promises, status by status. All of it follows from how the call ends.
-use Rattle.std.specs.Prelude.{ℕ, ◌≡◌, ◌⊎◌, ◌<◌, ◌≤◌, Bool, true, false, List, Option, Some, Ok, Err, length}
+use Rattle.std.specs.Prelude.{ℕ, ◌≡◌, ◌⊎◌, ◌<◌, Bool, true, false, List, Option, Some, Ok, Err, length}
 use Rattle.arrival_core.specs.Resolving.{resolver_of}
 use Rattle.cache_policy.specs.declared.Mode.TheVariants.{Offline}
 use Rattle.claim_rules.specs.Sessions.{needed as all_needed}

@@ -1,4 +1,4 @@
-use Rattle.std.proofs.Common.{◌≡◌, Err, refl, ap, sym, ◌∙◌}
+use Rattle.std.proofs.Common.{Err, refl, ap}
 use Rattle.cache_images.specs.Sound.{IsFaithful, IsSound}
 use Rattle.cache_store.specs.Stands.{disk_of}
 use Rattle.coursier_run.specs.Justified.{not_opened, worked}

@@ -1,6 +1,5 @@
-use Rattle.std.proofs.Common.{◌≡◌, ◌<◌, ◌≤◌, ℕ, List, Some, get_or, length, refl, arith, subst, sym}
-use Rattle.std.specs.Prelude.{map, slice_get, string_bytes}
-use Rattle.coursier_run.specs.Justified.{IsJustified, IsWorldOf}
+use Rattle.std.proofs.Common.{◌<◌, length, arith}
+use Rattle.coursier_run.specs.Justified.{IsWorldOf}
 use Rattle.coursier_run.proofs.FirstLink.{all_first, drop-set_first, first_of, first_set, set_first_same, zip_first}
 use Rattle.coursier_run.proofs.Promised.{answers_refusal, blames_disk, blames_link, blames_wider, has_status, lacks_file, needs_many, prints_verdict, refuses_words, stream_rose}
 use Rattle.coursier_run.proofs.Reasons.{Stays}

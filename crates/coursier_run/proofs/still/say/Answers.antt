@@ -1,4 +1,4 @@
-use Rattle.std.proofs.Common.{◌≡◌, true, Ok, Err, subst, sym}
+use Rattle.std.proofs.Common.{◌≡◌, true, subst, sym}
 use Rattle.coursier_run.specs.Justified.{done, refused}
 use Rattle.coursier_run.proofs.Sampled.{if_ok, ok_same}
 use Rattle.job_session.proofs.Asking.{asks_none}
