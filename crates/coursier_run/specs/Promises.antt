@@ -72,8 +72,8 @@ pub record BlamesDisk (before now : ℕ) (last : Option DiskCall) (s : Streams) 
   pub failed : last ≡ Some call
   pub told : IsTold s (said_of (refusals.Disk call)) 4
 
--- At 3 the link failed at a key as often as it may be asked, and the line names its URL. In each world that key is needed.
--- But for a repository that is made up, it is the link of this call that failed.
+-- At 3 the link failed, and the line names the URL of a key. In each world that key is needed. But for a repository that
+-- is made up, it is the link of this call that failed.
 pub record BlamesLink (World : Rows → Type 0) (LinkRose : Type 0) (words : List (List ℕ)) (s : Streams) : Type 0 where
   pub job : Job
   pub read : job_in words ≡ Ok job
@@ -83,7 +83,7 @@ pub record BlamesLink (World : Rows → Type 0) (LinkRose : Type 0) (words : Lis
   pub needed : (w : Rows) → world_by (is_sample job.command) World job w → Among key (needed_in job w)
   pub told : IsTold s (said_of (refusals.Repository (key_url job.addresses key))) 3
 
--- At 7 nobody may be asked, and the cache lacks a key. In each world that key is needed.
+-- At 7 nobody may be asked, and the line names the URL of a key. In each world that key is needed.
 pub record LacksFile (World : Rows → Type 0) (words : List (List ℕ)) (s : Streams) : Type 0 where
   pub job : Job
   pub read : job_in words ≡ Ok job
@@ -92,7 +92,7 @@ pub record LacksFile (World : Rows → Type 0) (words : List (List ℕ)) (s : St
   pub needed : (w : Rows) → world_by (is_sample job.command) World job w → Among key (needed_in job w)
   pub told : IsTold s (said_of (refusals.NotCached (key_url job.addresses key))) 7
 
--- At 8 as many claims were made as there may be. In each world more than 500,000 keys are needed.
+-- At 8 the line says that too many files are needed. In each world more than 500,000 keys are.
 pub record NeedsMany (World : Rows → Type 0) (words : List (List ℕ)) (s : Streams) : Type 0 where
   pub job : Job
   pub read : job_in words ≡ Ok job
