@@ -1,5 +1,5 @@
 -- From the first link to all of them.
-use Rattle.std.proofs.Common.{◌≡◌, ◌≤◌, ◌<◌, ℕ, List, [], ◌∷◌, get_or, arith, length, drop, All, slice_set, ap, subst, sym, refl, Some}
+use Rattle.std.proofs.Common.{◌≡◌, ◌<◌, List, [], ◌∷◌, get_or, arith, length, drop, All, slice_set, ap, subst, sym, refl, Some}
 use Rattle.std.specs.Prelude.{slice_get}
 use Rattle.std.specs.List.{AllZip}
 use Rattle.link_base.proofs.Zipped.{zip_refl}

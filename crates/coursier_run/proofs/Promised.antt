@@ -1,16 +1,15 @@
 -- What follows from how a call ends.
-use Rattle.std.proofs.Common.{◌≡◌, ◌⊎◌, ◌≤◌, ℕ, List, length, Ok, Err, inl, inr, ⊎_elim, arith, sym, ◌∙◌, ap, subst, refl}
+use Rattle.std.proofs.Common.{◌≡◌, ◌⊎◌, ◌≤◌, ℕ, List, length, Err, inl, inr, ⊎_elim, arith, sym, ◌∙◌, ap, subst, refl}
 use Rattle.cli_words.specs.Words.{job_in}
-use Rattle.command_lines.specs.Refusals.{line_of, said_of}
+use Rattle.command_lines.specs.Refusals.{said_of}
 use Rattle.command_lines.specs.declared.refusals.Refusal.TheVariants as refusals
 use Rattle.job_session.specs.Answers.{files_of}
-use Rattle.line_streams.specs.Outcomes.{Streams, IsTold, IsCut, IsCutErr, IsForOut, IsSaid, whole, cut_out, cut_err, Ends, says, no_memory}
-use Rattle.line_streams.specs.Said.{err_of, memory_line, status_of}
+use Rattle.line_streams.specs.Outcomes.{Streams, IsTold, IsCut, IsCutErr, IsForOut, whole, cut_out, cut_err, Ends, says, no_memory}
+use Rattle.line_streams.specs.Said.{err_of, status_of}
 use Rattle.line_streams.specs.declared.said.Said.{Said}
 use Rattle.pool_rules.specs.Counts.{Counts}
 use Rattle.res_base.specs.Causes.{Rose}
 use Rattle.res_base.specs.Known.{known_of}
-use Rattle.word_values.specs.declared.job.Job.{Job}
 use Rattle.word_values.specs.declared.refusals.WordKind.{WordKind}
 use Rattle.word_values.specs.declared.refusals.WordsErr.TheVariants.{BadWords}
 use Rattle.coursier_run.specs.Justified.{IsJustified, refused, done}
@@ -48,9 +47,9 @@ module _ (stays : Stays) (World : Rows → Type 0) (words : List (List ℕ)) (be
   below said (refuses kind place read is) at = omega (arith, at, ap status_of is)
   below said (prints job known v read over is worlds) at =
       ⊎_elim (λ zero. omega (arith, at, ap status_of is, zero)) (λ one. omega (arith, at, ap status_of is, one)) (is_answer job v (files_of job v (known_of known)) (length known))
-  below said (blames job key read online rose is) at = omega (arith, at, ap status_of is)
-  below said (misses job key read offline is) at = omega (arith, at, ap status_of is)
-  below said (many job read is) at = omega (arith, at, ap status_of is)
+  below said (blames job key read online rose needs is) at = omega (arith, at, ap status_of is)
+  below said (misses job key read offline needs is) at = omega (arith, at, ap status_of is)
+  below said (many job read more is) at = omega (arith, at, ap status_of is)
   below said (disk call rose last is) at = omega (arith, at, ap status_of is)
 
   pub has_status : Ended → status ≤ 8
@@ -72,9 +71,9 @@ module _ (stays : Stays) (World : Rows → Type 0) (words : List (List ℕ)) (be
         told = told_as s said _ status status t is refl;
         worlds = worlds;
       }
-  answer_at said (blames job key read online rose is) t le = absurd (omega (arith, t.status_is, ap status_of is, le))
-  answer_at said (misses job key read offline is) t le = absurd (omega (arith, t.status_is, ap status_of is, le))
-  answer_at said (many job read is) t le = absurd (omega (arith, t.status_is, ap status_of is, le))
+  answer_at said (blames job key read online rose needs is) t le = absurd (omega (arith, t.status_is, ap status_of is, le))
+  answer_at said (misses job key read offline needs is) t le = absurd (omega (arith, t.status_is, ap status_of is, le))
+  answer_at said (many job read more is) t le = absurd (omega (arith, t.status_is, ap status_of is, le))
   answer_at said (disk call rose last is) t le = absurd (omega (arith, t.status_is, ap status_of is, le))
 
   pub prints_verdict : Ended → status ≤ 1 → PrintsVerdict World words s status
@@ -86,62 +85,62 @@ module _ (stays : Stays) (World : Rows → Type 0) (words : List (List ℕ)) (be
   refuses_at said (refuses kind place read is) t at = record { kind = kind; place = place; read = read; told = told_as s said _ status 2 t is at }
   refuses_at said (prints job known v read over is worlds) t at =
       absurd (⊎_elim (λ e. omega (arith, t.status_is, ap status_of is, e, at)) (λ e. omega (arith, t.status_is, ap status_of is, e, at)) (is_answer job v (files_of job v (known_of known)) (length known)))
-  refuses_at said (blames job key read online rose is) t at = absurd (omega (arith, t.status_is, ap status_of is, at))
-  refuses_at said (misses job key read offline is) t at = absurd (omega (arith, t.status_is, ap status_of is, at))
-  refuses_at said (many job read is) t at = absurd (omega (arith, t.status_is, ap status_of is, at))
+  refuses_at said (blames job key read online rose needs is) t at = absurd (omega (arith, t.status_is, ap status_of is, at))
+  refuses_at said (misses job key read offline needs is) t at = absurd (omega (arith, t.status_is, ap status_of is, at))
+  refuses_at said (many job read more is) t at = absurd (omega (arith, t.status_is, ap status_of is, at))
   refuses_at said (disk call rose last is) t at = absurd (omega (arith, t.status_is, ap status_of is, at))
 
   pub refuses_words : Ended → status ≡ 2 → RefusesWords words s
   refuses_words ends at = let w = told ends 2 at (λ e. omega (arith, e)) (λ e. omega (arith, e)) in refuses_at w.0 w.1 w.2 at
 
-  blames_at : (said : Said) → Reason World words before now said → IsTold s said status → status ≡ 3 → BlamesLink (Rose before.faults now.faults) words s
+  blames_at : (said : Said) → Reason World words before now said → IsTold s said status → status ≡ 3 → BlamesLink World (Rose before.faults now.faults) words s
   blames_at said (refuses kind place read is) t at = absurd (omega (arith, t.status_is, ap status_of is, at))
   blames_at said (prints job known v read over is worlds) t at =
       absurd (⊎_elim (λ e. omega (arith, t.status_is, ap status_of is, e, at)) (λ e. omega (arith, t.status_is, ap status_of is, e, at)) (is_answer job v (files_of job v (known_of known)) (length known)))
-  blames_at said (blames job key read online rose is) t at =
-      record { job = job; read = read; key = key; online = online; failed = rose; told = told_as s said _ status 3 t is at }
-  blames_at said (misses job key read offline is) t at = absurd (omega (arith, t.status_is, ap status_of is, at))
-  blames_at said (many job read is) t at = absurd (omega (arith, t.status_is, ap status_of is, at))
+  blames_at said (blames job key read online rose needs is) t at =
+      record { job = job; read = read; key = key; online = online; failed = rose; needed = needs; told = told_as s said _ status 3 t is at }
+  blames_at said (misses job key read offline needs is) t at = absurd (omega (arith, t.status_is, ap status_of is, at))
+  blames_at said (many job read more is) t at = absurd (omega (arith, t.status_is, ap status_of is, at))
   blames_at said (disk call rose last is) t at = absurd (omega (arith, t.status_is, ap status_of is, at))
 
-  pub blames_link : Ended → status ≡ 3 → BlamesLink (Rose before.faults now.faults) words s
+  pub blames_link : Ended → status ≡ 3 → BlamesLink World (Rose before.faults now.faults) words s
   blames_link ends at = let w = told ends 3 at (λ e. omega (arith, e)) (λ e. omega (arith, e)) in blames_at w.0 w.1 w.2 at
 
   disk_at : (said : Said) → Reason World words before now said → IsTold s said status → status ≡ 4 → BlamesDisk before.disk_faults now.disk_faults now.disk_last s
   disk_at said (refuses kind place read is) t at = absurd (omega (arith, t.status_is, ap status_of is, at))
   disk_at said (prints job known v read over is worlds) t at =
       absurd (⊎_elim (λ e. omega (arith, t.status_is, ap status_of is, e, at)) (λ e. omega (arith, t.status_is, ap status_of is, e, at)) (is_answer job v (files_of job v (known_of known)) (length known)))
-  disk_at said (blames job key read online rose is) t at = absurd (omega (arith, t.status_is, ap status_of is, at))
-  disk_at said (misses job key read offline is) t at = absurd (omega (arith, t.status_is, ap status_of is, at))
-  disk_at said (many job read is) t at = absurd (omega (arith, t.status_is, ap status_of is, at))
+  disk_at said (blames job key read online rose needs is) t at = absurd (omega (arith, t.status_is, ap status_of is, at))
+  disk_at said (misses job key read offline needs is) t at = absurd (omega (arith, t.status_is, ap status_of is, at))
+  disk_at said (many job read more is) t at = absurd (omega (arith, t.status_is, ap status_of is, at))
   disk_at said (disk call rose last is) t at = record { call = call; rose = rose; failed = last; told = told_as s said _ status 4 t is at }
 
   pub blames_disk : Ended → status ≡ 4 → BlamesDisk before.disk_faults now.disk_faults now.disk_last s
   blames_disk ends at = let w = told ends 4 at (λ e. omega (arith, e)) (λ e. omega (arith, e)) in disk_at w.0 w.1 w.2 at
 
-  lacks_at : (said : Said) → Reason World words before now said → IsTold s said status → status ≡ 7 → LacksFile words s
+  lacks_at : (said : Said) → Reason World words before now said → IsTold s said status → status ≡ 7 → LacksFile World words s
   lacks_at said (refuses kind place read is) t at = absurd (omega (arith, t.status_is, ap status_of is, at))
   lacks_at said (prints job known v read over is worlds) t at =
       absurd (⊎_elim (λ e. omega (arith, t.status_is, ap status_of is, e, at)) (λ e. omega (arith, t.status_is, ap status_of is, e, at)) (is_answer job v (files_of job v (known_of known)) (length known)))
-  lacks_at said (blames job key read online rose is) t at = absurd (omega (arith, t.status_is, ap status_of is, at))
-  lacks_at said (misses job key read offline is) t at =
-      record { job = job; read = read; key = key; offline = offline; told = told_as s said _ status 7 t is at }
-  lacks_at said (many job read is) t at = absurd (omega (arith, t.status_is, ap status_of is, at))
+  lacks_at said (blames job key read online rose needs is) t at = absurd (omega (arith, t.status_is, ap status_of is, at))
+  lacks_at said (misses job key read offline needs is) t at =
+      record { job = job; read = read; key = key; offline = offline; needed = needs; told = told_as s said _ status 7 t is at }
+  lacks_at said (many job read more is) t at = absurd (omega (arith, t.status_is, ap status_of is, at))
   lacks_at said (disk call rose last is) t at = absurd (omega (arith, t.status_is, ap status_of is, at))
 
-  pub lacks_file : Ended → status ≡ 7 → LacksFile words s
+  pub lacks_file : Ended → status ≡ 7 → LacksFile World words s
   lacks_file ends at = let w = told ends 7 at (λ e. omega (arith, e)) (λ e. omega (arith, e)) in lacks_at w.0 w.1 w.2 at
 
-  many_at : (said : Said) → Reason World words before now said → IsTold s said status → status ≡ 8 → NeedsMany words s
+  many_at : (said : Said) → Reason World words before now said → IsTold s said status → status ≡ 8 → NeedsMany World words s
   many_at said (refuses kind place read is) t at = absurd (omega (arith, t.status_is, ap status_of is, at))
   many_at said (prints job known v read over is worlds) t at =
       absurd (⊎_elim (λ e. omega (arith, t.status_is, ap status_of is, e, at)) (λ e. omega (arith, t.status_is, ap status_of is, e, at)) (is_answer job v (files_of job v (known_of known)) (length known)))
-  many_at said (blames job key read online rose is) t at = absurd (omega (arith, t.status_is, ap status_of is, at))
-  many_at said (misses job key read offline is) t at = absurd (omega (arith, t.status_is, ap status_of is, at))
-  many_at said (many job read is) t at = record { job = job; read = read; told = told_as s said _ status 8 t is at }
+  many_at said (blames job key read online rose needs is) t at = absurd (omega (arith, t.status_is, ap status_of is, at))
+  many_at said (misses job key read offline needs is) t at = absurd (omega (arith, t.status_is, ap status_of is, at))
+  many_at said (many job read more is) t at = record { job = job; read = read; more = more; told = told_as s said _ status 8 t is at }
   many_at said (disk call rose last is) t at = absurd (omega (arith, t.status_is, ap status_of is, at))
 
-  pub needs_many : Ended → status ≡ 8 → NeedsMany words s
+  pub needs_many : Ended → status ≡ 8 → NeedsMany World words s
   needs_many ends at = let w = told ends 8 at (λ e. omega (arith, e)) (λ e. omega (arith, e)) in many_at w.0 w.1 w.2 at
 
   pub stream_rose : Ended → status ≡ 6 → out_rose ⊎ err_rose
@@ -152,9 +151,9 @@ module _ (stays : Stays) (World : Rows → Type 0) (words : List (List ℕ)) (be
       by (refuses kind place read is) at = omega (arith, at, ap status_of is, six)
       by (prints job known v read over is worlds) at =
           ⊎_elim (λ e. omega (arith, at, ap status_of is, e, six)) (λ e. omega (arith, at, ap status_of is, e, six)) (is_answer job v (files_of job v (known_of known)) (length known))
-      by (blames job key read online rose is) at = omega (arith, at, ap status_of is, six)
-      by (misses job key read offline is) at = omega (arith, at, ap status_of is, six)
-      by (many job read is) at = omega (arith, at, ap status_of is, six)
+      by (blames job key read online rose needs is) at = omega (arith, at, ap status_of is, six)
+      by (misses job key read offline needs is) at = omega (arith, at, ap status_of is, six)
+      by (many job read more is) at = omega (arith, at, ap status_of is, six)
       by (disk call rose last is) at = omega (arith, at, ap status_of is, six)
   stream_rose (says said j (cut_out is cut parts)) six = cut_rose (out_rose ⊎ err_rose) status cut six
   stream_rose (says said j (cut_err is cut parts)) six = inr (cut_rose err_rose status cut six)
@@ -174,6 +173,15 @@ module _ (stays : Stays) (World : Rows → Type 0) (words : List (List ℕ)) (be
       inr (cut, inl (subst (λ x. IsCutErr s (err_of x)) (refusal_said kind place bad said j) parts))
 
 -- from what rose to what rose with it
-pub blames_wider : (R R' : Type 0) (words : List (List ℕ)) (s : Streams) → (R → R') → BlamesLink R words s → BlamesLink R' words s
-blames_wider R R' words s f b =
-    record { job = b.job; read = b.read; key = b.key; online = b.online; failed = λ own. f (b.failed own); told = b.told }
+pub blames_wider : (World : Rows → Type 0) (R R' : Type 0) (words : List (List ℕ)) (s : Streams) → (R → R')
+    → BlamesLink World R words s → BlamesLink World R' words s
+blames_wider World R R' words s f b =
+    record {
+      job = b.job;
+      read = b.read;
+      key = b.key;
+      online = b.online;
+      failed = λ own. f (b.failed own);
+      needed = b.needed;
+      told = b.told;
+    }

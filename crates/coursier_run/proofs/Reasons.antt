@@ -1,17 +1,16 @@
 -- What is said, by the status that goes with it.
-use Rattle.std.proofs.Common.{◌≡◌, ◌⊎◌, ◌≤◌, ◌<◌, ◌+◌, ℕ, Bool, true, false, List, Ok, Err, Some, inl, inr, ⊎_elim, arith, refl, sym, ◌∙◌, ap, subst, length}
+use Rattle.std.proofs.Common.{◌≡◌, ◌⊎◌, ◌≤◌, ◌<◌, ◌+◌, ℕ, Bool, true, false, List, Ok, Err, Some, inl, inr, arith, refl, sym, ◌∙◌, subst, length}
 use Rattle.arrival_core.specs.Resolving.{resolver_of}
 use Rattle.cache_policy.specs.declared.Mode.{Mode}
 use Rattle.cache_policy.specs.declared.Mode.TheVariants.{Missing, Offline, Refresh}
 use Rattle.cli_words.specs.Words.{job_in}
-use Rattle.command_lines.specs.Refusals.{said_of, status_of as refusal_status}
+use Rattle.command_lines.specs.Refusals.{said_of}
 use Rattle.command_lines.specs.Rendered.{all_came, fetched_as, rendered_of, settled_as}
 use Rattle.command_lines.specs.declared.refusals.Refusal.TheVariants as refusals
 use Rattle.digest_check.specs.KeyAnswers.{key_url}
 use Rattle.disk_base.specs.declared.disk_errors.DiskCall.{DiskCall}
-use Rattle.job_session.specs.Beginnings.{fresh_desk}
-use Rattle.job_session.specs.Answers.{IsSaidAt, IsSession, WantsKnown, files_of, lacks, lacks_by, printed}
-use Rattle.line_streams.specs.Said.{status_of}
+use Rattle.job_session.specs.Beginnings.{fresh_desk, settings_for}
+use Rattle.job_session.specs.Answers.{IsSaidAt, IsSession, WantsKnown, files_of, lacks_by, printed}
 use Rattle.line_streams.specs.declared.said.Said.{Said}
 use Rattle.pool_rules.specs.Boards.{Desk}
 use Rattle.pool_rules.specs.Counts.{Counts, RiseBeside}
@@ -19,11 +18,14 @@ use Rattle.pool_rules.specs.Ends.{IsWorked}
 use Rattle.pool_rules.specs.declared.finish.Finish.{Finish}
 use Rattle.pool_rules.specs.declared.finish.Finish.TheVariants as finishes
 use Rattle.claim_rules.specs.Histories.{known_in, pairs_in}
-use Rattle.claim_rules.specs.Resolvers.{Resolver}
+use Rattle.claim_rules.specs.Resolvers.{IsLawful, Resolver}
+use Rattle.claim_rules.specs.Sessions.{needed as all_needed}
 use Rattle.claim_rules.specs.declared.why.Why.{Why}
 use Rattle.class_path.specs.declared.rows.FileRow.{FileRow}
-use Rattle.res_base.specs.Causes.{Rose, count_end}
+use Rattle.res_base.specs.Causes.{Rose}
 use Rattle.res_base.specs.Known.{Grows, Known, known_of}
+use Rattle.res_base.specs.Members.{Among, number_of}
+use Rattle.res_base.specs.Names.{key_eq}
 use Rattle.res_base.specs.declared.key.FileKey.{FileKey}
 use Rattle.res_base.specs.declared.reading.Reading.{Reading}
 use Rattle.resolution.specs.declared.progress.Progress.TheVariants.{Over}
@@ -31,17 +33,17 @@ use Rattle.resolution.specs.declared.settled.Settled.{Settled}
 use Rattle.resolution.specs.declared.verdict.Verdict.{Verdict}
 use Rattle.resolution.specs.declared.verdict.Verdict.TheVariants as verdicts
 use Rattle.round_core.specs.Rounds.{rounds_of}
-use Rattle.session_rules.specs.Outcomes.{FailedAt, IsServed}
+use Rattle.session_rules.specs.Outcomes.{FailedAt, HasTopLimits, IsServed}
 use Rattle.word_values.specs.declared.job.Command.{Command}
 use Rattle.word_values.specs.declared.job.Command.TheVariants as commands
 use Rattle.word_values.specs.declared.job.Job.{Job}
 use Rattle.word_values.specs.declared.refusals.WordKind.{WordKind}
 use Rattle.word_values.specs.declared.refusals.WordsErr.TheVariants.{BadWords}
-use Rattle.coursier_run.specs.Justified.{IsDone, not_opened, worked, IsDoneBy, cached, sampled, IsJustified, IsSampleOf, refused, done}
-use Rattle.coursier_run.specs.Promises.{IsVerdictIn, whole_for, world_by}
+use Rattle.coursier_run.specs.Justified.{not_opened, worked, cached, sampled, IsJustified, IsSampleOf, refused, done}
+use Rattle.coursier_run.specs.Promises.{IsVerdictIn, needed_in, whole_for, world_by}
 use Rattle.link_base.specs.Links.{Rows}
 use Rattle.resolution.specs.declared.ask.Ask.{Ask}
-use Rattle.word_values.specs.Fits.{is_sample}
+use Rattle.word_values.specs.Fits.{IsFit, is_sample}
 
 -- ---- what is printed has status 0 or 1
 
@@ -66,6 +68,14 @@ is_answer job (verdicts.Unsettled rounds) files reads = inr refl
 
 -- ---- why, by what is said
 
+-- in each world of which the job speaks, the key is needed
+abbrev IsNeeded : (Rows → Type 0) → Job → FileKey → Type 0
+IsNeeded World job key = (w : Rows) → world_by (is_sample job.command) World job w → Among key (needed_in job w)
+
+-- and in each so many keys are
+abbrev AreMany : (Rows → Type 0) → Job → Type 0
+AreMany World job = (w : Rows) → world_by (is_sample job.command) World job w → 500000 < number_of key_eq (needed_in job w)
+
 -- why something is said, without the way to it
 pub data Reason (World : Rows → Type 0) (words : List (List ℕ)) (before now : Counts) (said : Said) : Type 0 where
   refuses : (kind : WordKind) (place : ℕ) → job_in words ≡ Err (BadWords kind place)
@@ -75,23 +85,34 @@ pub data Reason (World : Rows → Type 0) (words : List (List ℕ)) (before now 
       → ((w : Rows) → world_by (is_sample job.command) World job w → IsVerdictIn job v (known_of known) w)
       → Reason World words before now said
   blames : (job : Job) (key : FileKey) → job_in words ≡ Ok job → (job.mode ≡ Offline → ⊥)
-      → (is_sample job.command ≡ false → Rose before.faults now.faults)
+      → (is_sample job.command ≡ false → Rose before.faults now.faults) → IsNeeded World job key
       → said ≡ said_of (refusals.Repository (key_url job.addresses key)) → Reason World words before now said
-  misses : (job : Job) (key : FileKey) → job_in words ≡ Ok job → job.mode ≡ Offline
+  misses : (job : Job) (key : FileKey) → job_in words ≡ Ok job → job.mode ≡ Offline → IsNeeded World job key
       → said ≡ said_of (refusals.NotCached (key_url job.addresses key)) → Reason World words before now said
-  many : (job : Job) → job_in words ≡ Ok job → said ≡ said_of refusals.TooManyFiles → Reason World words before now said
+  many : (job : Job) → job_in words ≡ Ok job → AreMany World job → said ≡ said_of refusals.TooManyFiles
+      → Reason World words before now said
   disk : (call : DiskCall) → Rose before.disk_faults now.disk_faults → now.disk_last ≡ Some call
       → said ≡ said_of (refusals.Disk call) → Reason World words before now said
 
--- over more answers the verdict is the same, and so are its files
+-- over more answers the verdict is the same, and so are its files; and what is known of a session that is not over
 pub record Stays : Type 0 where
   pub rounds : (ask : Ask) (known whole : Known) (v : Verdict) → Grows known whole → rounds_of known ask ≡ Over v
       → rounds_of whole ask ≡ Over v
   pub files : (job : Job) (known whole : Known) (v : Verdict) → Grows known whole → WantsKnown job v known
       → files_of job v known ≡ files_of job v whole
+  pub lawful : (ask : Ask) → IsLawful (resolver_of ask)
   pub failed : (r : Resolver Verdict) (old new : Desk) (before now : Counts) (key : FileKey) (why : Why)
       → IsServed r old new before now (finishes.Stuck key why) → (old.plan.mode ≡ Offline → ⊥)
       → FailedAt old.plan old.settings.retries key before now
+  pub needed : (r : Resolver Verdict) → IsLawful r → (old new : Desk) (before now : Counts) (key : FileKey) (why : Why)
+      → (all : Known) → IsServed r old new before now (finishes.Stuck key why) → Grows (known_in new.history) all
+      → Among key (all_needed r all)
+  pub too_many : (r : Resolver Verdict) → IsLawful r → (old new : Desk) (before now : Counts) (all : Known)
+      → IsServed r old new before now finishes.TooMany → HasTopLimits old.settings → Grows (known_in new.history) all
+      → 500000 < number_of key_eq (all_needed r all)
+
+has_top : (job : Job) → IsFit job → HasTopLimits (settings_for job)
+has_top job fit = record { claims = omega arith; hints = omega arith; retries = fit.retries }
 
 rise_rose : (a b n : ℕ) → RiseBeside a b 0 (1 + n) → Rose a b
 rise_rose a b n (inl more) = grind arith
@@ -100,15 +121,15 @@ rise_rose a b n (inr end) = grind arith
 module _ (stays : Stays) (World : Rows → Type 0) (words : List (List ℕ)) (before now : Counts) (said : Said) where
   lacking : (job : Job) (key : FileKey) → job_in words ≡ Ok job
       → ((job.mode ≡ Offline → ⊥) → is_sample job.command ≡ false → Rose before.faults now.faults)
-      → (m : Mode) → job.mode ≡ m
+      → IsNeeded World job key → (m : Mode) → job.mode ≡ m
       → said ≡ said_of (lacks_by m (key_url job.addresses key)) → Reason World words before now said
-  lacking job key read rose Missing at is =
+  lacking job key read rose needs Missing at is =
       let online : job.mode ≡ Offline → ⊥ = λ e. let d : Missing ≡ Offline = sym at ∙ e in cc in
-      blames job key read online (rose online) is
-  lacking job key read rose Offline at is = misses job key read at is
-  lacking job key read rose Refresh at is =
+      blames job key read online (rose online) needs is
+  lacking job key read rose needs Offline at is = misses job key read at needs is
+  lacking job key read rose needs Refresh at is =
       let online : job.mode ≡ Offline → ⊥ = λ e. let d : Refresh ≡ Offline = sym at ∙ e in cc in
-      blames job key read online (rose online) is
+      blames job key read online (rose online) needs is
 
   -- a session's, where its disk and its link failed only where those of this call did
   of_session : (Here : Rows → Type 0) (job : Job) (moment : ℕ) (begun later : Counts) → job_in words ≡ Ok job
@@ -134,8 +155,16 @@ module _ (stays : Stays) (World : Rows → Type 0) (words : List (List ℕ)) (be
           let failed = stays.failed (resolver_of job.ask) (fresh_desk job moment) session.desk begun later key why
           (record { first = refl; worked = work }) online in
           link_rose own (rise_rose begun.faults later.faults _ failed.rose))
+          (λ w is.
+          stays.needed (resolver_of job.ask) (stays.lawful job.ask) (fresh_desk job moment) session.desk begun later key why
+          (whole_for job w) (record { first = refl; worked = work }) (session.known w (here w is)))
           job.mode refl says
-      by finishes.TooMany at says work = many job read says
+      by finishes.TooMany at says work =
+          many job read
+          (λ w is.
+          stays.too_many (resolver_of job.ask) (stays.lawful job.ask) (fresh_desk job moment) session.desk begun later
+          (whole_for job w) (record { first = refl; worked = work }) (has_top job session.fit) (session.known w (here w is)))
+          says
       by (finishes.Disk call) at says work =
           let rose = disk_rose work.ends.0 in
           disk call rose.0 (rose.1 ∙ work.ends.1) says

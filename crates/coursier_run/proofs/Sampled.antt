@@ -2,6 +2,7 @@
 use Rattle.std.proofs.Common.{◌≡◌, ℕ, Option, Some, Result, Ok, Err, subst, sym}
 use Rattle.std.specs.Prelude.{IfOk}
 use Rattle.job_session.specs.Answers.{IsSession}
+use Rattle.job_session.specs.Asks.{AsksWithin}
 use Rattle.line_streams.specs.declared.said.Said.{Said}
 use Rattle.link_base.specs.Links.{Rows}
 use Rattle.pool_rules.specs.Counts.{Counts}
@@ -16,15 +17,28 @@ if_ok (Err e) f h = tt
 pub ok_at : {A E : Type 0} (P : A → Type 0) (result : Result A E) (x : A) → result ≡ Ok x → IfOk result P → P x
 ok_at P result x is h = subst (λ r. IfOk r P) is h
 
+pub ok_same : {A E : Type 0} (result : Result A E) (x y : A) → result ≡ Ok x → result ≡ Ok y → x ≡ y
+ok_same result x y e f = cc
+
 pub session_wider : (V W : Rows → Type 0) (job : Job) (moment : ℕ) (before now : Counts) (said : Said)
     → ((w : Rows) → W w → V w) → IsSession V job moment before now said → IsSession W job moment before now said
 session_wider V W job moment before now said fewer session =
     record {
+      fit = session.fit;
       desk = session.desk;
       finish = session.finish;
       worked = session.worked;
       says = session.says;
       known = λ w here. session.known w (fewer w here);
+    }
+
+pub asks_wider : (V W : Rows → Type 0) (job : Job) (rose : Type 0) (before now : ℕ) → ((w : Rows) → W w → V w)
+    → AsksWithin V job rose before now → AsksWithin W job rose before now
+asks_wider V W job rose before now fewer asks =
+    record {
+      silent = asks.silent;
+      retried = λ w here. asks.retried w (fewer w here);
+      calm = λ quiet w here. asks.calm quiet w (fewer w here);
     }
 
 pub sampled_by : (World : Rows → Type 0) (job : Job) (seed count : ℕ) (begun now : Counts) (said : Said)

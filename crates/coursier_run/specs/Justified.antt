@@ -6,6 +6,7 @@ use Rattle.command_lines.specs.declared.refusals.Refusal.TheVariants as refusals
 use Rattle.disk_base.specs.declared.disk_errors.DiskCall.{DiskCall}
 use Rattle.disk_base.specs.Names.{Names}
 use Rattle.job_session.specs.Answers.{IsSession}
+use Rattle.job_session.specs.Asks.{AsksWithin}
 use Rattle.job_session.specs.Faithful.{TellsFaithful}
 use Rattle.line_streams.specs.declared.said.Said.{Said}
 use Rattle.link_base.specs.Links.{Rows}
@@ -79,3 +80,12 @@ pub record FirstRose {L : Type 0} (faults : L → ℕ) (links after : List L) : 
   pub was_first : slice_get links 0 ≡ Some before
   pub is_first : slice_get after 0 ≡ Some now
   pub rose : Rose (faults before) (faults now)
+
+-- the first link was asked for the files of this job no more often than may be
+pub record FirstAsks {L : Type 0} (faults asked : L → ℕ) (World : Rows → Type 0) (job : Job) (links after : List L)
+    : Type 0 where
+  pub before : L
+  pub now : L
+  pub was_first : slice_get links 0 ≡ Some before
+  pub is_first : slice_get after 0 ≡ Some now
+  pub within : AsksWithin World job (Rose (faults before) (faults now)) (asked before) (asked now)

@@ -1,6 +1,8 @@
 -- What the top call promises, status by status. All of it follows from how the call ends.
-use Rattle.std.specs.Prelude.{ℕ, ◌≡◌, ◌⊎◌, ◌≤◌, Bool, true, false, List, Option, Some, Ok, Err, length}
+use Rattle.std.specs.Prelude.{ℕ, ◌≡◌, ◌⊎◌, ◌<◌, Bool, true, false, List, Option, Some, Ok, Err, length}
+use Rattle.arrival_core.specs.Resolving.{resolver_of}
 use Rattle.cache_policy.specs.declared.Mode.TheVariants.{Offline}
+use Rattle.claim_rules.specs.Sessions.{needed as all_needed}
 use Rattle.cli_words.specs.Words.{job_in}
 use Rattle.command_lines.specs.Refusals.{line_of, said_of}
 use Rattle.command_lines.specs.declared.refusals.Refusal.TheVariants as refusals
@@ -15,6 +17,8 @@ use Rattle.link_base.specs.Links.{Rows}
 use Rattle.pool_rules.specs.Worlds.{whole_of}
 use Rattle.res_base.specs.Causes.{Rose}
 use Rattle.res_base.specs.Known.{Known, known_of}
+use Rattle.res_base.specs.Members.{Among, number_of}
+use Rattle.res_base.specs.Names.{key_eq}
 use Rattle.res_base.specs.declared.key.FileKey.{FileKey}
 use Rattle.res_base.specs.declared.reading.Reading.{Reading}
 use Rattle.resolution.specs.declared.progress.Progress.TheVariants.{Over}
@@ -28,6 +32,10 @@ use Rattle.word_values.specs.declared.refusals.WordsErr.TheVariants.{BadWords}
 -- all answers of a world to a job
 abbrev pub whole_for : Job → Rows → Known
 whole_for job w = whole_of (plan_for job 0) w
+
+-- all keys that a job needs over all answers of a world
+abbrev pub needed_in : Job → Rows → List FileKey
+needed_in job w = all_needed (resolver_of job.ask) (whole_for job w)
 
 -- in this world the rounds from nothing have this verdict, whose files are there what is printed of them
 pub record IsVerdictIn (job : Job) (verdict : Verdict) (known : Known) (w : Rows) : Type 0 where
@@ -64,28 +72,31 @@ pub record BlamesDisk (before now : ℕ) (last : Option DiskCall) (s : Streams) 
   pub failed : last ≡ Some call
   pub told : IsTold s (said_of (refusals.Disk call)) 4
 
--- At 3 a key was needed and the link failed at it as often as it may be asked, and the line names its URL. But for a
--- repository that is made up, it is the link of this call that failed.
-pub record BlamesLink (LinkRose : Type 0) (words : List (List ℕ)) (s : Streams) : Type 0 where
+-- At 3 the link failed, and the line names the URL of a key. In each world that key is needed. But for a repository that
+-- is made up, it is the link of this call that failed.
+pub record BlamesLink (World : Rows → Type 0) (LinkRose : Type 0) (words : List (List ℕ)) (s : Streams) : Type 0 where
   pub job : Job
   pub read : job_in words ≡ Ok job
   pub key : FileKey
   pub online : job.mode ≡ Offline → ⊥
   pub failed : is_sample job.command ≡ false → LinkRose
+  pub needed : (w : Rows) → world_by (is_sample job.command) World job w → Among key (needed_in job w)
   pub told : IsTold s (said_of (refusals.Repository (key_url job.addresses key))) 3
 
--- At 7 nobody may be asked, and a key is needed that the cache lacks.
-pub record LacksFile (words : List (List ℕ)) (s : Streams) : Type 0 where
+-- At 7 nobody may be asked, and the line names the URL of a key. In each world that key is needed.
+pub record LacksFile (World : Rows → Type 0) (words : List (List ℕ)) (s : Streams) : Type 0 where
   pub job : Job
   pub read : job_in words ≡ Ok job
   pub key : FileKey
   pub offline : job.mode ≡ Offline
+  pub needed : (w : Rows) → world_by (is_sample job.command) World job w → Among key (needed_in job w)
   pub told : IsTold s (said_of (refusals.NotCached (key_url job.addresses key))) 7
 
--- At 8 a key was needed and as many claims were made as there may be.
-pub record NeedsMany (words : List (List ℕ)) (s : Streams) : Type 0 where
+-- At 8 the line says that too many files are needed. In each world more than 500,000 keys are.
+pub record NeedsMany (World : Rows → Type 0) (words : List (List ℕ)) (s : Streams) : Type 0 where
   pub job : Job
   pub read : job_in words ≡ Ok job
+  pub more : (w : Rows) → world_by (is_sample job.command) World job w → 500000 < number_of key_eq (needed_in job w)
   pub told : IsTold s (said_of refusals.TooManyFiles) 8
 
 -- refused words end with status 2 and their line, unless there is no memory or the sink fails

@@ -1,15 +1,17 @@
 //! Jobs.
-ghost use Rattle.std.specs.Prelude.{◌≡◌, IfOk};
+ghost use Rattle.std.specs.Prelude.{◌≡◌, true, IfOk};
 ghost use Rattle.cache_images.specs.Sound.{IsFaithful, IsSound};
 ghost use Rattle.cache_store.specs.Causes.{IsFromDisk};
 ghost use Rattle.command_lines.specs.Refusals.{said_of};
 ghost use Rattle.coursier_run.specs.Justified.{IsDone, IsDoneBy};
 ghost use Rattle.disk_base.specs.Runs.{Keeps};
 ghost use Rattle.disk_base.specs.declared.disk_errors.DiskCall.{DiskCall};
+ghost use Rattle.job_session.specs.Asks.{AsksWithin};
 ghost use Rattle.job_session.specs.Faithful.{TellsFaithful};
 ghost use Rattle.link_base.specs.Links.{LinkKept, Rows};
 ghost use Rattle.pool_rules.specs.Counts.{counts_of};
-ghost use Rattle.word_values.specs.Fits.{IsFit};
+ghost use Rattle.res_base.specs.Causes.{Rose};
+ghost use Rattle.word_values.specs.Fits.{IsFit, is_sample};
 
 use super::sample::say_sample;
 use cache_store::{OpenFault, Store, StoreErr};
@@ -49,6 +51,8 @@ fn say_cached<L: Link, D: Disk>(
     ensures done { IfOk result.0 (IsDone (λ w. L.agrees link.old w × TellsFaithful D.told w disk) job.now
         (counts_of L.faults L.asked L.failed_urls D.faults D.last link.old disk)
         (counts_of L.faults L.asked L.failed_urls D.faults D.last link.new result.1)) }
+    ensures few { AsksWithin (λ w. L.agrees link.old w × TellsFaithful D.told w disk) job.now
+        (Rose (L.faults link.old) (L.faults link.new)) (L.asked link.old) (L.asked link.new) }
     ensures kept { LinkKept L.agrees L.faults L.asked L.failed_urls link.old link.new }
     ensures sound { Keeps D.told D.moment D.since IsSound disk result.1 }
     ensures faithful { (w : Rows) → L.agrees link.old w → Keeps D.told D.moment D.since (IsFaithful w) disk result.1 }
@@ -71,6 +75,9 @@ pub(crate) fn run_job<L: Link, D: Disk, C: Clock>(
     ensures done { IfOk result.0 (IsDoneBy (λ w. L.agrees link.old w × TellsFaithful D.told w disk) job.now
         (counts_of L.faults L.asked L.failed_urls D.faults D.last link.old disk)
         (counts_of L.faults L.asked L.failed_urls D.faults D.last link.new result.1)) }
+    ensures few { AsksWithin (λ w. L.agrees link.old w × TellsFaithful D.told w disk) job.now
+        (Rose (L.faults link.old) (L.faults link.new)) (L.asked link.old) (L.asked link.new) }
+    ensures own { is_sample job.now.command ≡ true → (link.new ≡ link.old) × (result.1 ≡ disk) × (clock.new ≡ clock.old) }
     ensures kept { LinkKept L.agrees L.faults L.asked L.failed_urls link.old link.new }
     ensures sound { Keeps D.told D.moment D.since IsSound disk result.1 }
     ensures faithful { (w : Rows) → L.agrees link.old w → Keeps D.told D.moment D.since (IsFaithful w) disk result.1 }

@@ -1,20 +1,24 @@
 //! The top call.
-ghost use Rattle.std.specs.Prelude.{◌≡◌, ◌<◌, ◌≤◌, ◌⊎◌, ℕ, List, IfOk, Ok, Err, drop, map, string_bytes, vec_len};
+ghost use Rattle.std.specs.Prelude.{◌≡◌, ◌<◌, ◌≤◌, ◌⊎◌, ℕ, List, true, IfOk, Ok, Err, drop, map, string_bytes, vec_len};
 ghost use Rattle.std.specs.List.{AllZip};
 ghost use Rattle.cache_images.specs.Sound.{IsFaithful, IsSound};
 ghost use Rattle.cli_words.specs.Words.{job_in};
-ghost use Rattle.coursier_run.specs.Justified.{FirstRose, IsJustified, IsWorldOf, WithFirst};
+ghost use Rattle.coursier_run.specs.Justified.{FirstAsks, FirstRose, IsJustified, IsWorldOf, WithFirst};
 ghost use Rattle.coursier_run.specs.Promises.{AnswersRefusal, BlamesDisk, BlamesLink, LacksFile, NeedsMany, PrintsVerdict, RefusesWords};
 ghost use Rattle.disk_base.specs.Runs.{Keeps};
+ghost use Rattle.job_session.specs.Asks.{AsksWithin};
 ghost use Rattle.job_session.specs.Faithful.{TellsFaithful};
 ghost use Rattle.line_streams.specs.Outcomes.{Ends, streams};
 ghost use Rattle.link_base.specs.Links.{LinkKept, Rows};
 ghost use Rattle.pool_rules.specs.Counts.{counts_of};
 ghost use Rattle.res_base.specs.Causes.{Rose};
+ghost use Rattle.word_values.specs.Fits.{is_sample};
+ghost use Rattle.word_values.specs.declared.job.Job.{Job as Asked};
 ghost use Rattle.word_values.specs.declared.refusals.WordKind.{WordKind as Kind};
 ghost use Rattle.word_values.specs.declared.refusals.WordsErr.TheVariants.{BadWords};
 
 use super::run::run_job;
+use arrival_core::rounds_lawful;
 use cli_words::job_of;
 use command_lines::Refusal;
 use disk_base::Disk;
@@ -23,7 +27,7 @@ use line_streams::{Said, tell};
 use link_base::{Clock, Link, Sink};
 use res_base::NoMemory;
 use resolution::Verdict;
-use session_rules::stuck_broken;
+use session_rules::{stuck_broken, too_many_needed};
 use std::alloc::Global;
 use std::thread::Threads;
 use word_values::WordsErr;
@@ -51,6 +55,11 @@ fn say<L: Link, D: Disk, C: Clock>(
         (counts_of L.faults L.asked L.failed_urls D.faults D.last link.old disk)
         (counts_of L.faults L.asked L.failed_urls D.faults D.last link.new result.1)) }
     ensures untouched { (kind : Kind) (place : ℕ) → job_in (map string_bytes words.now) ≡ Err (BadWords kind place)
+        → (link.new ≡ link.old) × (result.1 ≡ disk) × (clock.new ≡ clock.old) }
+    ensures few { (job : Asked) → job_in (map string_bytes words.now) ≡ Ok job
+        → AsksWithin (λ w. L.agrees link.old w × TellsFaithful D.told w disk) job
+        (Rose (L.faults link.old) (L.faults link.new)) (L.asked link.old) (L.asked link.new) }
+    ensures own { (job : Asked) → job_in (map string_bytes words.now) ≡ Ok job → is_sample job.command ≡ true
         → (link.new ≡ link.old) × (result.1 ≡ disk) × (clock.new ≡ clock.old) }
     ensures kept { LinkKept L.agrees L.faults L.asked L.failed_urls link.old link.new }
     ensures sound { Keeps D.told D.moment D.since IsSound disk result.1 }
@@ -80,6 +89,11 @@ fn serve<L: Link, D: Disk, C: Clock, O: Sink>(
         (streams O.written out.old out.new err.old err.new)
         (Rose (O.faults out.old) (O.faults out.new)) (Rose (O.faults err.old) (O.faults err.new)) result.status }
     ensures untouched { (kind : Kind) (place : ℕ) → job_in (map string_bytes words.now) ≡ Err (BadWords kind place)
+        → (link.new ≡ link.old) × (result.disk ≡ disk) × (clock.new ≡ clock.old) }
+    ensures few { (job : Asked) → job_in (map string_bytes words.now) ≡ Ok job
+        → AsksWithin (λ w. L.agrees link.old w × TellsFaithful D.told w disk) job
+        (Rose (L.faults link.old) (L.faults link.new)) (L.asked link.old) (L.asked link.new) }
+    ensures own { (job : Asked) → job_in (map string_bytes words.now) ≡ Ok job → is_sample job.command ≡ true
         → (link.new ≡ link.old) × (result.disk ≡ disk) × (clock.new ≡ clock.old) }
     ensures kept { LinkKept L.agrees L.faults L.asked L.failed_urls link.old link.new }
     ensures sound { Keeps D.told D.moment D.since IsSound disk result.disk }
@@ -117,20 +131,29 @@ pub fn run_still<R: Threads + Sync, L: Link + Send, D: Disk + Send, C: Clock, O:
     ensures refused { result.status ≡ 2
         → RefusesWords (map string_bytes words.now) (streams O.written out.old out.new err.old err.new) }
     ensures blamed { result.status ≡ 3
-        → BlamesLink (FirstRose L.faults links.old.items links.new.items) (map string_bytes words.now) (streams O.written out.old out.new err.old err.new) }
+        → BlamesLink (IsWorldOf L.agrees D.told links.old.items disk) (FirstRose L.faults links.old.items links.new.items)
+        (map string_bytes words.now) (streams O.written out.old out.new err.old err.new) }
     ensures disk_failed { result.status ≡ 4 → BlamesDisk (D.faults disk) (D.faults result.disk) (D.last result.disk)
         (streams O.written out.old out.new err.old err.new) }
     ensures stream_failed { result.status ≡ 6
         → Rose (O.faults out.old) (O.faults out.new) ⊎ Rose (O.faults err.old) (O.faults err.new) }
     ensures lacking { result.status ≡ 7
-        → LacksFile (map string_bytes words.now) (streams O.written out.old out.new err.old err.new) }
+        → LacksFile (IsWorldOf L.agrees D.told links.old.items disk) (map string_bytes words.now)
+        (streams O.written out.old out.new err.old err.new) }
     ensures many { result.status ≡ 8
-        → NeedsMany (map string_bytes words.now) (streams O.written out.old out.new err.old err.new) }
+        → NeedsMany (IsWorldOf L.agrees D.told links.old.items disk) (map string_bytes words.now)
+        (streams O.written out.old out.new err.old err.new) }
 
     // Refused words get their line, and nothing else is touched.
     ensures refusal { AnswersRefusal (Rose (O.faults err.old) (O.faults err.new)) (map string_bytes words.now)
         (streams O.written out.old out.new err.old err.new) result.status }
     ensures untouched { (kind : Kind) (place : ℕ) → job_in (map string_bytes words.now) ≡ Err (BadWords kind place)
+        → (links.new.items ≡ links.old.items) × (result.disk ≡ disk) × (clock.new ≡ clock.old) }
+
+    // How often the first link is asked for a job; a job of `sample` touches nothing.
+    ensures few { (job : Asked) → job_in (map string_bytes words.now) ≡ Ok job
+        → FirstAsks L.faults L.asked (IsWorldOf L.agrees D.told links.old.items disk) job links.old.items links.new.items }
+    ensures own { (job : Asked) → job_in (map string_bytes words.now) ≡ Ok job → is_sample job.command ≡ true
         → (links.new.items ≡ links.old.items) × (result.disk ≡ disk) × (clock.new ≡ clock.old) }
 
     // What stands after it.
@@ -142,6 +165,8 @@ pub fn run_still<R: Threads + Sync, L: Link + Send, D: Disk + Send, C: Clock, O:
         → Keeps D.told D.moment D.since (IsFaithful w) disk result.disk }
 {
     verdicts_stay();
+    rounds_lawful();
     stuck_broken::<Verdict>();
+    too_many_needed::<Verdict>();
     serve(alloc, words, &mut links[0], disk, clock, out, err)
 }

@@ -1,6 +1,6 @@
 -- The files of a verdict, where all of them are known.
-use Rattle.std.proofs.Common.{◌≡◌, Bool, true, false, ◌&&◌, ℕ, zero, suc, Option, None, Some, List, [], ◌∷◌, ◌<◌, refl, sym, ◌∙◌, ap, subst, true≢false, arith}
-use Rattle.std.specs.Prelude.{All, IsSome, length, slice_get}
+use Rattle.std.proofs.Common.{◌≡◌, Bool, true, false, ◌&&◌, ℕ, zero, suc, Option, None, Some, List, [], ◌∷◌, refl, sym, ap, true≢false, arith}
+use Rattle.std.specs.Prelude.{IsSome, slice_get}
 use Rattle.std.specs.List.{filter_map, list_all}
 use Rattle.std.specs.Option.{is_some}
 use Rattle.artifact_files.specs.Files.{artifact_keys}

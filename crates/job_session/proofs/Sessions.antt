@@ -1,6 +1,6 @@
 -- How a session begins and ends.
-use Rattle.std.proofs.Common.{◌≡◌, ◌⊎◌, ◌<◌, ◌≤◌, inl, inr, ℕ, Bool, true, false, ◌&&◌, Option, None, Some, List, [], ◌∷◌, Result, Ok, Err, refl, sym, ◌∙◌, ap, subst, true≢false, arith}
-use Rattle.std.specs.Prelude.{IfOk, length}
+use Rattle.std.proofs.Common.{◌≡◌, ◌<◌, inl, inr, ℕ, Bool, true, false, ◌&&◌, Option, None, Some, List, [], ◌∷◌, Result, Ok, Err, refl, sym, ◌∙◌, ap, subst, true≢false, arith}
+use Rattle.std.specs.Prelude.{IfOk}
 use Rattle.std.specs.List.{list_all}
 use Rattle.arrival_core.specs.Cores.{State}
 use Rattle.arrival_core.specs.Resolving.{resolver_of, standing_of}
@@ -11,7 +11,6 @@ use Rattle.claim_rules.specs.Histories.{History, known_in}
 use Rattle.claim_rules.specs.Least.{least}
 use Rattle.claim_rules.specs.Sessions.{is_known, is_over, is_over_at, needs}
 use Rattle.claim_rules.specs.declared.claim.Claim.{Claim}
-use Rattle.claim_rules.specs.declared.claim.Claim.TheVariants as claims
 use Rattle.claim_rules.specs.declared.settings.Settings.{Settings}
 use Rattle.disk_base.specs.Images.{Image}
 use Rattle.disk_base.specs.Names.{Names}
@@ -129,16 +128,17 @@ may_say says among listed job core desk before now finishes.TooMany fit asks set
 may_say says among listed job core desk before now (finishes.Disk call) fit asks settings history up ends = tt
 may_say says among listed job core desk before now finishes.Memory fit asks settings history up ends = tt
 
-none_known : (all : Known) → Grows (known_in []) all
+pub none_known : (all : Known) → Grows (known_in []) all
 none_known all key reading e = absurd cc
 
 pub session_of : (World : Rows → Type 0) (job : Job) (moment : ℕ) (ask : Ask) (old new : Desk) (before now : Counts)
-    (finish : Finish) (said : Said) → ask ≡ job.ask → old ≡ fresh_desk job moment
+    (finish : Finish) (said : Said) → IsFit job → ask ≡ job.ask → old ≡ fresh_desk job moment
     → IsWorked (resolver_of ask) old new before now finish
     → ((w : Rows) → World w → StaysTrue (whole_of old.plan w) old.history new.history)
     → IsSaidAt job new.history finish said → IsSession World job moment before now said
-session_of World job moment ask old new before now finish said is fresh worked stays says =
+session_of World job moment ask old new before now finish said fit is fresh worked stays says =
     record {
+      fit = fit;
       desk = new;
       finish = finish;
       worked =

@@ -34,6 +34,7 @@ use Rattle.resolution.specs.declared.verdict.Verdict.{Verdict}
 use Rattle.resolution.specs.declared.verdict.Verdict.TheVariants as verdicts
 use Rattle.round_core.specs.Reads.{files_if as keys_if}
 use Rattle.round_core.specs.Rounds.{rounds_of}
+use Rattle.word_values.specs.Fits.{IsFit}
 use Rattle.word_values.specs.declared.job.Job.{Job}
 
 -- the files of a verdict, where files are asked for and it is settled
@@ -93,9 +94,10 @@ MaySay job core finishes.TooMany = Unit {0}
 MaySay job core (finishes.Disk call) = Unit {0}
 MaySay job core finishes.Memory = Unit {0}
 
--- The fresh board of the job was worked through, and this is said of how that ended. What is known then is true in each
--- world of which that may be said.
+-- The job fits. Its fresh board was worked through, and this is said of how that ended. What is known then is true in
+-- each world of which that may be said.
 pub record IsSession (World : Rows → Type 0) (job : Job) (moment : ℕ) (before now : Counts) (said : Said) : Type 0 where
+  pub fit : IsFit job
   pub desk : Desk
   pub finish : Finish
   pub worked : IsWorked (resolver_of job.ask) (fresh_desk job moment) desk before now finish

@@ -1,5 +1,5 @@
 -- A session before anything is known.
-use Rattle.std.specs.Prelude.{◌≡◌, ℕ, Bool, false, [], None, Option}
+use Rattle.std.specs.Prelude.{◌≡◌, ℕ, Bool, false, [], None}
 use Rattle.arrival_core.specs.Cores.{State}
 use Rattle.cache_policy.specs.declared.Mode.{Mode}
 use Rattle.cache_policy.specs.declared.Mode.TheVariants.{Missing, Offline, Refresh}

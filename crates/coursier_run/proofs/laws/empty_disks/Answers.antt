@@ -1,6 +1,6 @@
 use Rattle.std.proofs.Common.{◌≡◌, ℕ, List, Option, None, Some, inl, inr, sym, ◌∙◌, subst}
 use Rattle.disk_base.specs.Images.{IsImageOf, MayShow}
-use Rattle.disk_base.specs.Names.{no_names, unbound}
+use Rattle.disk_base.specs.Names.{unbound}
 use Rattle.coursier_run.proofs.laws.empty_disks.Goals as goal
 
 shows_none : (o : Option (List ℕ)) → MayShow unbound o → o ≡ None

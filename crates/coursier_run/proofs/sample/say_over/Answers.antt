@@ -1,4 +1,4 @@
-use Rattle.std.proofs.Common.{◌≡◌, refl, subst}
+use Rattle.std.proofs.Common.{refl, subst}
 use Rattle.cache_images.specs.Sound.{IsFaithful}
 use Rattle.cache_store.specs.Stands.{disk_of}
 use Rattle.disk_base.specs.MemoryMembers.{told_of}

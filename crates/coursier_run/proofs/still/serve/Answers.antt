@@ -1,5 +1,3 @@
-use Rattle.std.proofs.Common.{◌≡◌, Result, Ok, subst}
-use Rattle.std.specs.Prelude.{IfOk}
 use Rattle.line_streams.proofs.Endings.{ends_of}
 use Rattle.coursier_run.proofs.Sampled.{ok_at}
 use Rattle.coursier_run.proofs.still.serve.Goals as goal

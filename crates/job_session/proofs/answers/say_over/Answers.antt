@@ -1,6 +1,6 @@
-use Rattle.std.proofs.Common.{◌≡◌, ◌<◌, ℕ, refl, sym, ◌∙◌, ap, subst, length}
+use Rattle.std.proofs.Common.{◌≡◌, ℕ, refl, sym, ◌∙◌, ap, subst, length}
 use Rattle.claim_rules.specs.Histories.{known_in}
-use Rattle.job_session.specs.Answers.{IsOver, PrintsVerdict, WantsKnown, printed}
+use Rattle.job_session.specs.Answers.{IsOver, printed}
 use Rattle.job_session.proofs.Sessions.{if_ok, over_is, wants_same}
 use Rattle.project_lookup.specs.KnownPairs.{KnownPairs}
 use Rattle.res_base.specs.Known.{known_of}
