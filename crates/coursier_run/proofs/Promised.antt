@@ -10,10 +10,12 @@ use Rattle.line_streams.specs.declared.said.Said.{Said}
 use Rattle.pool_rules.specs.Counts.{Counts}
 use Rattle.res_base.specs.Causes.{Rose}
 use Rattle.res_base.specs.Known.{known_of}
+use Rattle.res_base.specs.declared.key.FileKey.{FileKey}
+use Rattle.word_values.specs.declared.job.Job.{Job}
 use Rattle.word_values.specs.declared.refusals.WordKind.{WordKind}
 use Rattle.word_values.specs.declared.refusals.WordsErr.TheVariants.{BadWords}
 use Rattle.coursier_run.specs.Justified.{IsJustified, refused, done}
-use Rattle.coursier_run.specs.Promises.{AnswersRefusal, BlamesDisk, BlamesLink, LacksFile, NeedsMany, PrintsVerdict, RefusesWords}
+use Rattle.coursier_run.specs.Promises.{AnswersRefusal, BlamesDisk, BlamesLink, FailedFor, LacksFile, NeedsMany, PrintsVerdict, RefusesWords}
 use Rattle.link_base.specs.Links.{Rows}
 use Rattle.coursier_run.proofs.Reasons.{Reason, Stays, refuses, prints, blames, misses, many, disk, is_answer, reason}
 
@@ -93,7 +95,7 @@ module _ (stays : Stays) (World : Rows → Type 0) (words : List (List ℕ)) (be
   pub refuses_words : Ended → status ≡ 2 → RefusesWords words s
   refuses_words ends at = let w = told ends 2 at (λ e. omega (arith, e)) (λ e. omega (arith, e)) in refuses_at w.0 w.1 w.2 at
 
-  blames_at : (said : Said) → Reason World words before now said → IsTold s said status → status ≡ 3 → BlamesLink World (Rose before.faults now.faults) words s
+  blames_at : (said : Said) → Reason World words before now said → IsTold s said status → status ≡ 3 → BlamesLink World (FailedFor before now) words s
   blames_at said (refuses kind place read is) t at = absurd (omega (arith, t.status_is, ap status_of is, at))
   blames_at said (prints job known v read over is worlds) t at =
       absurd (⊎_elim (λ e. omega (arith, t.status_is, ap status_of is, e, at)) (λ e. omega (arith, t.status_is, ap status_of is, e, at)) (is_answer job v (files_of job v (known_of known)) (length known)))
@@ -103,7 +105,7 @@ module _ (stays : Stays) (World : Rows → Type 0) (words : List (List ℕ)) (be
   blames_at said (many job read more is) t at = absurd (omega (arith, t.status_is, ap status_of is, at))
   blames_at said (disk call rose last is) t at = absurd (omega (arith, t.status_is, ap status_of is, at))
 
-  pub blames_link : Ended → status ≡ 3 → BlamesLink World (Rose before.faults now.faults) words s
+  pub blames_link : Ended → status ≡ 3 → BlamesLink World (FailedFor before now) words s
   blames_link ends at = let w = told ends 3 at (λ e. omega (arith, e)) (λ e. omega (arith, e)) in blames_at w.0 w.1 w.2 at
 
   disk_at : (said : Said) → Reason World words before now said → IsTold s said status → status ≡ 4 → BlamesDisk before.disk_faults now.disk_faults now.disk_last s
@@ -173,7 +175,8 @@ module _ (stays : Stays) (World : Rows → Type 0) (words : List (List ℕ)) (be
       inr (cut, inl (subst (λ x. IsCutErr s (err_of x)) (refusal_said kind place bad said j) parts))
 
 -- from what rose to what rose with it
-pub blames_wider : (World : Rows → Type 0) (R R' : Type 0) (words : List (List ℕ)) (s : Streams) → (R → R')
+pub blames_wider : (World : Rows → Type 0) (R R' : Job → FileKey → Type 0) (words : List (List ℕ)) (s : Streams)
+    → ((job : Job) (key : FileKey) → R job key → R' job key)
     → BlamesLink World R words s → BlamesLink World R' words s
 blames_wider World R R' words s f b =
     record {
@@ -181,7 +184,7 @@ blames_wider World R R' words s f b =
       read = b.read;
       key = b.key;
       online = b.online;
-      failed = λ own. f (b.failed own);
+      failed = λ own. f b.job b.key (b.failed own);
       needed = b.needed;
       told = b.told;
     }

@@ -1,5 +1,6 @@
 -- What is said, by the status that goes with it.
 use Rattle.std.proofs.Common.{◌≡◌, ◌⊎◌, ◌≤◌, ◌<◌, ◌+◌, ℕ, Bool, true, false, List, Ok, Err, Some, inl, inr, arith, refl, sym, ◌∙◌, subst, length}
+use Rattle.std.specs.Prelude.{IsSome}
 use Rattle.arrival_core.specs.Resolving.{resolver_of}
 use Rattle.cache_policy.specs.declared.Mode.{Mode}
 use Rattle.cache_policy.specs.declared.Mode.TheVariants.{Missing, Offline, Refresh}
@@ -9,11 +10,11 @@ use Rattle.command_lines.specs.Rendered.{all_came, fetched_as, rendered_of, sett
 use Rattle.command_lines.specs.declared.refusals.Refusal.TheVariants as refusals
 use Rattle.digest_check.specs.KeyAnswers.{key_url}
 use Rattle.disk_base.specs.declared.disk_errors.DiskCall.{DiskCall}
-use Rattle.job_session.specs.Beginnings.{fresh_desk, settings_for}
+use Rattle.job_session.specs.Beginnings.{fresh_desk, plan_for, settings_for}
 use Rattle.job_session.specs.Answers.{IsSaidAt, IsSession, WantsKnown, files_of, lacks_by, printed}
 use Rattle.line_streams.specs.declared.said.Said.{Said}
 use Rattle.pool_rules.specs.Boards.{Desk}
-use Rattle.pool_rules.specs.Counts.{Counts, RiseBeside}
+use Rattle.pool_rules.specs.Counts.{Counts, RiseBeside, urls_of}
 use Rattle.pool_rules.specs.Ends.{IsWorked}
 use Rattle.pool_rules.specs.declared.finish.Finish.{Finish}
 use Rattle.pool_rules.specs.declared.finish.Finish.TheVariants as finishes
@@ -40,7 +41,7 @@ use Rattle.word_values.specs.declared.job.Job.{Job}
 use Rattle.word_values.specs.declared.refusals.WordKind.{WordKind}
 use Rattle.word_values.specs.declared.refusals.WordsErr.TheVariants.{BadWords}
 use Rattle.coursier_run.specs.Justified.{not_opened, worked, cached, sampled, IsJustified, IsSampleOf, refused, done}
-use Rattle.coursier_run.specs.Promises.{IsVerdictIn, needed_in, whole_for, world_by}
+use Rattle.coursier_run.specs.Promises.{FailedFor, IsVerdictIn, needed_in, whole_for, world_by}
 use Rattle.link_base.specs.Links.{Rows}
 use Rattle.resolution.specs.declared.ask.Ask.{Ask}
 use Rattle.word_values.specs.Fits.{IsFit, is_sample}
@@ -85,7 +86,7 @@ pub data Reason (World : Rows → Type 0) (words : List (List ℕ)) (before now 
       → ((w : Rows) → world_by (is_sample job.command) World job w → IsVerdictIn job v (known_of known) w)
       → Reason World words before now said
   blames : (job : Job) (key : FileKey) → job_in words ≡ Ok job → (job.mode ≡ Offline → ⊥)
-      → (is_sample job.command ≡ false → Rose before.faults now.faults) → IsNeeded World job key
+      → (is_sample job.command ≡ false → FailedFor before now job key) → IsNeeded World job key
       → said ≡ said_of (refusals.Repository (key_url job.addresses key)) → Reason World words before now said
   misses : (job : Job) (key : FileKey) → job_in words ≡ Ok job → job.mode ≡ Offline → IsNeeded World job key
       → said ≡ said_of (refusals.NotCached (key_url job.addresses key)) → Reason World words before now said
@@ -114,13 +115,9 @@ pub record Stays : Type 0 where
 has_top : (job : Job) → IsFit job → HasTopLimits (settings_for job)
 has_top job fit = record { claims = omega arith; hints = omega arith; retries = fit.retries }
 
-rise_rose : (a b n : ℕ) → RiseBeside a b 0 (1 + n) → Rose a b
-rise_rose a b n (inl more) = grind arith
-rise_rose a b n (inr end) = grind arith
-
 module _ (stays : Stays) (World : Rows → Type 0) (words : List (List ℕ)) (before now : Counts) (said : Said) where
   lacking : (job : Job) (key : FileKey) → job_in words ≡ Ok job
-      → ((job.mode ≡ Offline → ⊥) → is_sample job.command ≡ false → Rose before.faults now.faults)
+      → ((job.mode ≡ Offline → ⊥) → is_sample job.command ≡ false → FailedFor before now job key)
       → IsNeeded World job key → (m : Mode) → job.mode ≡ m
       → said ≡ said_of (lacks_by m (key_url job.addresses key)) → Reason World words before now said
   lacking job key read rose needs Missing at is =
@@ -135,9 +132,9 @@ module _ (stays : Stays) (World : Rows → Type 0) (words : List (List ℕ)) (be
   of_session : (Here : Rows → Type 0) (job : Job) (moment : ℕ) (begun later : Counts) → job_in words ≡ Ok job
       → ((w : Rows) → world_by (is_sample job.command) World job w → Here w)
       → (Rose begun.disk_faults later.disk_faults → Rose before.disk_faults now.disk_faults × (now.disk_last ≡ later.disk_last))
-      → (is_sample job.command ≡ false → Rose begun.faults later.faults → Rose before.faults now.faults)
+      → (is_sample job.command ≡ false → (key : FileKey) → FailedFor begun later job key → FailedFor before now job key)
       → IsSession Here job moment begun later said → Reason World words before now said
-  of_session Here job moment begun later read here disk_rose link_rose session = by session.finish refl session.says session.worked
+  of_session Here job moment begun later read here disk_rose link_failed session = by session.finish refl session.says session.worked
     where
       by : (f : Finish) → session.finish ≡ f → IsSaidAt job session.desk.history f said
           → IsWorked (resolver_of job.ask) (fresh_desk job moment) session.desk begun later f → Reason World words before now said
@@ -154,7 +151,7 @@ module _ (stays : Stays) (World : Rows → Type 0) (words : List (List ℕ)) (be
           (λ online own.
           let failed = stays.failed (resolver_of job.ask) (fresh_desk job moment) session.desk begun later key why
           (record { first = refl; worked = work }) online in
-          link_rose own (rise_rose begun.faults later.faults _ failed.rose))
+          link_failed own key (record { rose = failed.rose; urls = failed.urls }))
           (λ w is.
           stays.needed (resolver_of job.ask) (stays.lawful job.ask) (fresh_desk job moment) session.desk begun later key why
           (whole_for job w) (record { first = refl; worked = work }) (session.known w (here w is)))
@@ -173,6 +170,16 @@ module _ (stays : Stays) (World : Rows → Type 0) (words : List (List ℕ)) (be
 rose_wider : (a b c : ℕ) → a ≤ b → Rose b c → Rose a c
 rose_wider a b c le rose = grind arith
 
+-- where the count and the failed URLs were as before
+failed_before : (job : Job) (key : FileKey) (before begun now : Counts) → begun.faults ≡ before.faults
+    → begun.failed ≡ before.failed → FailedFor begun now job key → FailedFor before now job key
+failed_before job key before begun now faults failed at =
+    record {
+      rose = subst (λ n. RiseBeside n now.faults 0 (1 + job.retries)) faults at.rose;
+      urls = subst (λ o. IsSome o → (1 + job.retries) + urls_of (plan_for job 0) key o ≤ urls_of (plan_for job 0) key now.failed)
+          failed at.urls;
+    }
+
 no_rise : (a b : ℕ) → b ≡ 0 → Rose a b → ⊥
 no_rise a b is rose = grind arith
 
@@ -184,9 +191,9 @@ reason stays World words before now said (done job read (cached own (worked mome
     of_session stays World words before now said World job moment begun now read
     (λ w is. subst (λ b. world_by b World job w) own is)
     (λ rose. (rose_wider before.disk_faults begun.disk_faults now.disk_faults opened.later rose, refl))
-    (λ still rose. subst (λ n. Rose n now.faults) opened.faults rose) session
+    (λ still key failed. failed_before job key before begun now opened.faults opened.failed failed) session
 reason stays World words before now said (done job read (sampled own of_it)) =
     of_session stays World words before now said (IsSampleOf job.sample) job 0 of_it.begun of_it.now read
     (λ w is. subst (λ b. world_by b World job w) own is)
     (λ rose. absurd (no_rise of_it.begun.disk_faults of_it.now.disk_faults of_it.calm rose))
-    (λ not_own rose. absurd (let d : true ≡ false = sym own ∙ not_own in cc)) of_it.session
+    (λ not_own key failed. absurd (let d : true ≡ false = sym own ∙ not_own in cc)) of_it.session

@@ -73,14 +73,6 @@ pub record IsWorldOf {L D : Type 0} (agrees : L → Rows → Type 0) (told : D �
   pub agree : All (λ link. agrees link w) links
   pub faithful : TellsFaithful told w disk
 
--- the count of faults of the first link rose
-pub record FirstRose {L : Type 0} (faults : L → ℕ) (links after : List L) : Type 0 where
-  pub before : L
-  pub now : L
-  pub was_first : slice_get links 0 ≡ Some before
-  pub is_first : slice_get after 0 ≡ Some now
-  pub rose : Rose (faults before) (faults now)
-
 -- the first link was asked for the files of this job no more often than may be
 pub record FirstAsks {L : Type 0} (faults asked : L → ℕ) (World : Rows → Type 0) (job : Job) (links after : List L)
     : Type 0 where

@@ -14,6 +14,7 @@ use Rattle.job_session.specs.Beginnings.{plan_for}
 use Rattle.line_streams.specs.Outcomes.{Streams, IsTold, IsCut, IsCutErr}
 use Rattle.line_streams.specs.Said.{memory_line}
 use Rattle.link_base.specs.Links.{Rows}
+use Rattle.pool_rules.specs.Counts.{Counts}
 use Rattle.pool_rules.specs.Worlds.{whole_of}
 use Rattle.res_base.specs.Causes.{Rose}
 use Rattle.res_base.specs.Known.{Known, known_of}
@@ -24,6 +25,7 @@ use Rattle.res_base.specs.declared.reading.Reading.{Reading}
 use Rattle.resolution.specs.declared.progress.Progress.TheVariants.{Over}
 use Rattle.resolution.specs.declared.verdict.Verdict.{Verdict}
 use Rattle.round_core.specs.Rounds.{rounds_of}
+use Rattle.session_rules.specs.Outcomes.{FailedAt}
 use Rattle.word_values.specs.Fits.{is_sample}
 use Rattle.word_values.specs.declared.job.Job.{Job}
 use Rattle.word_values.specs.declared.refusals.WordKind.{WordKind}
@@ -72,14 +74,20 @@ pub record BlamesDisk (before now : ℕ) (last : Option DiskCall) (s : Streams) 
   pub failed : last ≡ Some call
   pub told : IsTold s (said_of (refusals.Disk call)) 4
 
--- At 3 the link failed, and the line names the URL of a key. In each world that key is needed. But for a repository that
--- is made up, it is the link of this call that failed.
-pub record BlamesLink (World : Rows → Type 0) (LinkRose : Type 0) (words : List (List ℕ)) (s : Streams) : Type 0 where
+-- The link failed once more than a job retries, or its count of faults stands at its end. Where it tells the URLs at which
+-- it failed, it failed so often at those of this key.
+abbrev pub FailedFor : Counts → Counts → Job → FileKey → Type 0
+FailedFor before now job key = FailedAt (plan_for job 0) job.retries key before now
+
+-- At 3 the link failed as often as it may be asked for a key, and the line names the key's URL. In each world that key is
+-- needed. But for a repository that is made up, it is the link of this call that failed.
+pub record BlamesLink (World : Rows → Type 0) (LinkFailed : Job → FileKey → Type 0) (words : List (List ℕ)) (s : Streams)
+    : Type 0 where
   pub job : Job
   pub read : job_in words ≡ Ok job
   pub key : FileKey
   pub online : job.mode ≡ Offline → ⊥
-  pub failed : is_sample job.command ≡ false → LinkRose
+  pub failed : is_sample job.command ≡ false → LinkFailed job key
   pub needed : (w : Rows) → world_by (is_sample job.command) World job w → Among key (needed_in job w)
   pub told : IsTold s (said_of (refusals.Repository (key_url job.addresses key))) 3
 

@@ -3,8 +3,8 @@ ghost use Rattle.std.specs.Prelude.{◌≡◌, ◌<◌, ◌≤◌, ◌⊎◌, �
 ghost use Rattle.std.specs.List.{AllZip};
 ghost use Rattle.cache_images.specs.Sound.{IsFaithful, IsSound};
 ghost use Rattle.cli_words.specs.Words.{job_in};
-ghost use Rattle.coursier_run.specs.Justified.{FirstAsks, FirstRose, IsJustified, IsWorldOf, WithFirst};
-ghost use Rattle.coursier_run.specs.Promises.{AnswersRefusal, BlamesDisk, BlamesLink, LacksFile, NeedsMany, PrintsVerdict, RefusesWords};
+ghost use Rattle.coursier_run.specs.Justified.{FirstAsks, IsJustified, IsWorldOf, WithFirst};
+ghost use Rattle.coursier_run.specs.Promises.{AnswersRefusal, BlamesDisk, BlamesLink, FailedFor, LacksFile, NeedsMany, PrintsVerdict, RefusesWords};
 ghost use Rattle.disk_base.specs.Runs.{Keeps};
 ghost use Rattle.job_session.specs.Asks.{AsksWithin};
 ghost use Rattle.job_session.specs.Faithful.{TellsFaithful};
@@ -131,7 +131,8 @@ pub fn run_still<R: Threads + Sync, L: Link + Send, D: Disk + Send, C: Clock, O:
     ensures refused { result.status ≡ 2
         → RefusesWords (map string_bytes words.now) (streams O.written out.old out.new err.old err.new) }
     ensures blamed { result.status ≡ 3
-        → BlamesLink (IsWorldOf L.agrees D.told links.old.items disk) (FirstRose L.faults links.old.items links.new.items)
+        → BlamesLink (IsWorldOf L.agrees D.told links.old.items disk) (λ job key. WithFirst L.faults L.asked L.failed_urls
+        D.faults D.last links.old.items links.new.items disk result.disk (λ before now. FailedFor before now job key))
         (map string_bytes words.now) (streams O.written out.old out.new err.old err.new) }
     ensures disk_failed { result.status ≡ 4 → BlamesDisk (D.faults disk) (D.faults result.disk) (D.last result.disk)
         (streams O.written out.old out.new err.old err.new) }

@@ -56,7 +56,7 @@ returns-clause-blamed g c =
     let ends = returns-clause-ends g c in
     λ at.
     blames_wider _ _ _ _ _
-    (λ rose. record { before = ends.before; now = ends.now; was_first = ends.was_first; is_first = ends.is_first; rose = rose })
+    (λ job key failed. record { before = ends.before; now = ends.now; was_first = ends.was_first; is_first = ends.is_first; work = failed })
     (blames_link (stays g c) _ _ _ _ _ _ _ _ ends.work at)
 
 pub returns-clause-disk_failed : goal.returns-clause-disk_failed
