@@ -1,3 +1,4 @@
+pub mod Concluding
 pub mod FirstLink
 pub mod Promised
 pub mod Reasons

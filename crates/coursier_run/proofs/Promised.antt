@@ -8,7 +8,6 @@ use Rattle.line_streams.specs.Outcomes.{Streams, IsTold, IsCut, IsCutErr, IsForO
 use Rattle.line_streams.specs.Said.{err_of, status_of}
 use Rattle.line_streams.specs.declared.said.Said.{Said}
 use Rattle.pool_rules.specs.Counts.{Counts}
-use Rattle.res_base.specs.Causes.{Rose}
 use Rattle.res_base.specs.Known.{known_of}
 use Rattle.res_base.specs.declared.key.FileKey.{FileKey}
 use Rattle.word_values.specs.declared.job.Job.{Job}
@@ -32,14 +31,14 @@ told_as s said other status n told is at = subst (λ m. IsTold s other m) at (su
 
 module _ (stays : Stays) (World : Rows → Type 0) (words : List (List ℕ)) (before now : Counts) (s : Streams)
     (out_rose err_rose : Type 0) (status : ℕ) where
-  abbrev Ended : Type 0
+  abbrev pub Ended : Type 0
   Ended = Ends (IsJustified World words before now) s out_rose err_rose status
 
   -- what was told in whole, or that it was cut
-  abbrev Whole : Type 0
+  abbrev pub Whole : Type 0
   Whole = (said : Said) × (Reason World words before now said) × (IsTold s said status)
 
-  whole_or_cut : Ended → Whole ⊎ ((status ≡ 5) ⊎ (status ≡ 6))
+  pub whole_or_cut : Ended → Whole ⊎ ((status ≡ 5) ⊎ (status ≡ 6))
   whole_or_cut (no_memory lacking) = inr (cut_status err_rose status lacking.cut)
   whole_or_cut (says said j (whole told)) = inl (said, reason stays World words before now said j, told)
   whole_or_cut (says said j (cut_out is cut parts)) = inr (cut_status (out_rose ⊎ err_rose) status cut)

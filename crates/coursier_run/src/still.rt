@@ -3,6 +3,7 @@ ghost use Rattle.std.specs.Prelude.{◌≡◌, ◌<◌, ◌≤◌, ◌⊎◌, �
 ghost use Rattle.std.specs.List.{AllZip};
 ghost use Rattle.cache_images.specs.Sound.{IsFaithful, IsSound};
 ghost use Rattle.cli_words.specs.Words.{job_in};
+ghost use Rattle.coursier_run.specs.Conclusions.{IsConcluded, NothingFailed};
 ghost use Rattle.coursier_run.specs.Justified.{FirstAsks, IsJustified, IsWorldOf, WithFirst};
 ghost use Rattle.coursier_run.specs.Promises.{AnswersRefusal, BlamesDisk, BlamesLink, FailedFor, LacksFile, NeedsMany, PrintsVerdict, RefusesWords};
 ghost use Rattle.disk_base.specs.Runs.{Keeps};
@@ -144,6 +145,12 @@ pub fn run_still<R: Threads + Sync, L: Link + Send, D: Disk + Send, C: Clock, O:
     ensures many { result.status ≡ 8
         → NeedsMany (IsWorldOf L.agrees D.told links.old.items disk) (map string_bytes words.now)
         (streams O.written out.old out.new err.old err.new) }
+
+    // Where nothing failed, `resolve` and `fetch` come to their answer.
+    ensures complete { IsConcluded (IsWorldOf L.agrees D.told links.old.items disk) (map string_bytes words.now)
+        (NothingFailed (WithFirst L.faults L.asked L.failed_urls D.faults D.last links.old.items links.new.items disk
+        result.disk (λ before now. Rose before.faults now.faults)) (Rose (D.faults disk) (D.faults result.disk))
+        (Rose (O.faults out.old) (O.faults out.new)) (Rose (O.faults err.old) (O.faults err.new))) result.status }
 
     // Refused words get their line, and nothing else is touched.
     ensures refusal { AnswersRefusal (Rose (O.faults err.old) (O.faults err.new)) (map string_bytes words.now)

@@ -1,5 +1,6 @@
 use Rattle.std.proofs.Common.{◌<◌, length, arith}
 use Rattle.coursier_run.specs.Justified.{IsWorldOf}
+use Rattle.coursier_run.proofs.Concluding.{concluded_wider, concludes}
 use Rattle.coursier_run.proofs.FirstLink.{all_first, drop-set_first, first_of, first_set, set_first_same, zip_first}
 use Rattle.coursier_run.proofs.Promised.{answers_refusal, blames_disk, blames_link, blames_wider, has_status, lacks_file, needs_many, prints_verdict, refuses_words, stream_rose}
 use Rattle.coursier_run.proofs.Reasons.{Stays}
@@ -74,6 +75,19 @@ returns-clause-lacking g c =
 pub returns-clause-many : goal.returns-clause-many
 returns-clause-many g c =
     needs_many (stays g c) _ _ _ _ _ _ _ _ (returns-clause-ends g c).work
+
+pub returns-clause-complete : goal.returns-clause-complete
+returns-clause-complete g c =
+    let ends = returns-clause-ends g c in
+    concluded_wider _ _ _ _ _
+    (λ calm.
+    record {
+      link = λ rose. calm.link (record { before = ends.before; now = ends.now; was_first = ends.was_first; is_first = ends.is_first; work = rose });
+      disk = calm.disk;
+      out = calm.out;
+      err = calm.err;
+    })
+    (concludes (stays g c) _ _ _ _ _ _ _ _ ends.work)
 
 pub returns-clause-refusal : goal.returns-clause-refusal
 returns-clause-refusal g c =
