@@ -188,9 +188,6 @@ pub line_length_rest : (line rest : Bytes) → LineRest line rest → length lin
 line_length_rest line rest l =
     omega (arith, ap length l.spelled, length-append line (10 ∷ l.more), lines_some l.lines l.more l.after)
 
-none_left : {T : Type 0} (rest : Bytes) → 1 ≤ length rest → rest ≡ [] → T
-none_left rest some e = absurd (omega (arith, some, ap length e))
-
 lines_left : (line : LinePlace) (rest : Bytes) → LinesRest line rest → 1 ≤ length rest
 lines_left Leading rest l = absurd l
 lines_left LeadingReturn rest l = absurd l

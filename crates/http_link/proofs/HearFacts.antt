@@ -1,7 +1,6 @@
 -- What a reply that was received so far says of the whole reply.
-use Rattle.std.proofs.Common.{◌≡◌, ◌≢◌, ℕ, zero, suc, ◌+◌, ◌<◌, ◌≤◌, ◌==◌, List, [], ◌∷◌, ◌++◌, length, length-append, length-take, take, drop, Option, Some, None, Result, Ok, Err, refl, sym, ap, ◌∙◌, subst, append_assoc, append-nil, take-append-drop, arith, Bool, true, false, is_some, nat_lt}
-use Rattle.std.proofs.lemmas.Bool.{false≢true, lt-ltb, eqb-true}
-use Rattle.std.proofs.lemmas.Bool.Decides.{nat_tests}
+use Rattle.std.proofs.Common.{◌≡◌, ◌≢◌, ℕ, zero, suc, ◌+◌, ◌<◌, ◌≤◌, ◌==◌, List, [], ◌∷◌, ◌++◌, length, length-append, length-take, take, drop, Option, Some, None, Result, Ok, Err, refl, sym, ap, ◌∙◌, subst, append_assoc, append-nil, take-append-drop, arith, true, is_some}
+use Rattle.std.proofs.lemmas.Bool.{false≢true, eqb-true}
 use Rattle.std.proofs.lemmas.List.{take_all, nil_from_length}
 use Rattle.http_wire.specs.declared.reply_reader.ReplyReader.{ReplyReader}
 use Rattle.http_wire.specs.declared.replies.Fed.{Fed}
@@ -260,14 +259,6 @@ pub some_on : (pages : Option (List Page)) (old_at connection : Option Connectio
 some_on pages old_at connection old now into_old into_new step h =
     let s = step None h.0 [] h.2 (untold pages) (hearing_of old_at old h.0 h.1 h.2 h.3) in
     (h.0, s.hearing.bytes, s.after, s.hearing.read)
-
--- what is not refuted and can be tested holds
-pub lt_stable : (a b : ℕ) → ¬ ¬ (a < b) → a < b
-lt_stable a b h = let is = by_test (nat_lt a b) refl in grind (arith, nat_tests, is)
-  where
-    by_test : (t : Bool) → nat_lt a b ≡ t → nat_lt a b ≡ true
-    by_test true e = e
-    by_test false e = absurd (h (λ less. false≢true (sym e ∙ lt-ltb a b less)))
 
 -- the step of a loop: what is so of the step is so of all of them
 pub loop_on : (told pages pages_now : Option (List Page)) (at_1 at_2 : Option Connection) (one two : ReplyReader)

@@ -401,9 +401,6 @@ last_ended told now limit reply into_old into_new before ended same t =
 pub rose_later : (a b c : ℕ) → a ≤ b → Rose b c → Rose a c
 rose_later a b c le rose = grind (arith, le, rose)
 
-pub rose_same : (a b c : ℕ) → b ≡ a → Rose b c → Rose a c
-rose_same a b c e rose = subst (λ k. Rose k c) e rose
-
 -- what pages say of a file whose reply ended at a fault
 pub says_fault : (pages : Option (List Page)) (limit : ℕ) (url reply content : Bytes) (start : Place)
     (ended : Result (Unit {0}) ReplyErr)

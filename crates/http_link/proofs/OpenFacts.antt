@@ -30,7 +30,6 @@ use Rattle.http_link.specs.declared.hear.Step.{Step}
 use Rattle.http_link.specs.Hearing.{IsToldOf, IsHearing, HearsFew, HasReadSome, ended_of}
 use Rattle.http_link.specs.Openings.{IsTail}
 use Rattle.http_wire.specs.Outcomes.{Outcome}
-use Rattle.http_link.specs.Gots.{IsReady}
 use Rattle.http_link.specs.Readings.{HasContent, IsReadTo, IsKnown}
 use Rattle.http_link.proofs.KnownFacts.{LimitLaws, known_tail, known_after, some_read}
 use Rattle.http_link.proofs.LinkFacts.{open_agrees, fits_visit, given_agrees, known_given, kept_open, refill_agrees, known_reading, visited_at, fault_found}
@@ -141,12 +140,6 @@ refill_reading pages old_at connection w file old reader step most waiting pendi
 -- a file is no fault
 pub not_there : {T : Type 0} (opening : Opening) → Opened opening ≡ Fault → T
 not_there opening e = cc
-
--- what is known of an open file, of which more was or will be given
-pub given_reading : (ended : Option (Result (Unit {0}) ReplyErr)) (pending : Bytes) → IsReady pending ended
-    → pending ≡ [] → ended ≢ None
-given_reading None pending ready none = λ e. ready none
-given_reading (Some ended) pending ready none = λ e. cc
 
 -- the same, where the piece was counted
 pub known_count : (ended : Option (Result (Unit {0}) ReplyErr)) (reader : ReplyReader) (limit given count : ℕ)

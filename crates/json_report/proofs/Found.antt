@@ -1,7 +1,7 @@
 -- Targets of edges that are found at their places, and values of modules.
-use Rattle.std.proofs.Common.{◌≡◌, ◌<◌, ◌≤◌, ◌+◌, ℕ, Some, List, [], ◌∷◌, ◌++◌, fold, length, map, drop, get_or, refl, sym, ◌∙◌, ap, arith}
+use Rattle.std.proofs.Common.{◌≡◌, ◌<◌, ◌+◌, ℕ, Some, List, [], ◌∷◌, ◌++◌, fold, length, map, drop, get_or, refl, sym, ◌∙◌, ap, arith}
 use Rattle.std.specs.Prelude.{nat_eq, slice_get}
-use Rattle.std.proofs.lemmas.List.{append-nil, append_assoc, drop_all, drop_more}
+use Rattle.std.proofs.lemmas.List.{append_assoc, drop_more}
 use Rattle.indexmap.specs.IndexSet.{insert_all, insert_key}
 use Rattle.json_report.specs.Found.{with_target}
 use Rattle.json_report.specs.Report.{module_value, module_values, targets_of}
@@ -30,6 +30,3 @@ one_more settled addresses place node made value all h is here old =
     ∙ ap (λ n. made ++ module_value settled addresses place node ∷ module_values settled addresses n (drop (place + 1) settled.nodes)) (omega arith)
     ∙ ap (λ z. made ++ module_values settled addresses place z) (sym next)
     ∙ old
-
-pub no_more : (settled : Settled) (addresses : List (List ℕ)) (place : ℕ) (made : List Data) (all : List Data) → length settled.nodes ≤ place → made ++ module_values settled addresses place (drop place settled.nodes) ≡ all → made ≡ all
-no_more settled addresses place made all h old = sym (append-nil made) ∙ ap (λ z. made ++ module_values settled addresses place z) (sym (drop_all place settled.nodes h)) ∙ old

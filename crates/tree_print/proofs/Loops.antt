@@ -1,6 +1,5 @@
 -- The walk, line by line.
-use Rattle.std.proofs.Common.{◌≡◌, ◌<◌, ◌≤◌, ◌+◌, ◌-◌, ℕ, zero, suc, Bool, true, false, Option, Some, List, [], ◌∷◌, ◌++◌, length, map, reverse, get_or, replicate, refl, sym, ◌∙◌, ap, subst, arith}
-use Rattle.std.specs.Prelude.{All}
+use Rattle.std.proofs.Common.{◌≡◌, ◌<◌, ◌≤◌, ◌+◌, ◌-◌, ℕ, zero, suc, Bool, true, false, List, [], ◌∷◌, ◌++◌, length, map, reverse, refl, sym, ◌∙◌, ap, subst, arith}
 use Rattle.std.specs.List.{flat_map}
 use Rattle.std.proofs.lemmas.List.{append-nil, append_assoc}
 use Rattle.std.proofs.lemmas.List.Elements.{All-append, All-map}
@@ -100,11 +99,6 @@ last_line settled line marks stack text empty so = by so.branches (subst (λ (s 
     by : (branches : List Branch) → [] ≡ map wanted branches → text ++ flat_map (line_text settled.nodes) (lines settled.edges (length settled.edges - line) so.above branches) ≡ tree_text settled → text ≡ tree_text settled
     by [] none is = sym (append-nil text) ∙ ap (λ z. text ++ flat_map (line_text settled.nodes) z) (sym (no_lines settled.edges (length settled.edges - line) so.above)) ∙ is
     by (branch ∷ branches) none is = absurd (cc none)
-
-pub all_lines : (settled : Settled) (line : ℕ) (marks : List Bool) (stack : List Pending) (text : List ℕ) → length settled.edges ≤ line → IsPrinted settled line marks stack text → text ≡ tree_text settled
-all_lines settled line marks stack text h so =
-    let none : length settled.edges - line ≡ 0 = omega (arith, h) in
-    sym (append-nil text) ∙ ap (λ n. text ++ flat_map (line_text settled.nodes) (lines settled.edges n so.above so.branches)) (sym none) ∙ so.shown
 
 roots_within : (edges : List Edge) → IsWithin 0 (root_branches edges)
 roots_within edges = All-map (λ (b : Branch). b.depth ≤ 0) (branch_at 0) _ (λ k d within. omega arith)

@@ -1,5 +1,5 @@
 -- What holds of the lists of a job.
-use Rattle.std.proofs.Common.{◌≡◌, ℕ, Bool, true, false, ◌&&◌, not, cond, List, [], ◌∷◌, ◌++◌, Option, Some, None, Ok, refl, sym, subst, append_assoc, append-nil}
+use Rattle.std.proofs.Common.{◌≡◌, ℕ, Bool, true, false, ◌&&◌, not, cond, List, [], ◌∷◌, ◌++◌, Option, Some, None, Ok, refl, subst, append_assoc, append-nil}
 use Rattle.std.specs.List.{list_all}
 use Rattle.std.proofs.lemmas.Bool.{and_from, and_parts}
 use Rattle.res_base.specs.CoordReader.{coord_in}
@@ -25,10 +25,6 @@ passes_where passes (Some c) coord e = go (passes c) refl e
     go : (b : Bool) → passes c ≡ b → cond b (Some c) None ≡ Some coord → passes coord ≡ true
     go true q s = let same : c ≡ coord = cc in subst (λ x. passes x ≡ true) same q
     go false q s = let no : ⊥ = cc in absurd no
-
-not_true : (b : Bool) → not b ≡ true → b ≡ false
-not_true true e = sym e
-not_true false e = refl
 
 pub apart_more : (seen xs : List Coord) (coord : Coord) → modules_apart_after seen xs ≡ true → not (has_module (seen ++ xs) coord.«module») ≡ true → modules_apart_after seen (xs ++ coord ∷ []) ≡ true
 apart_more seen [] coord e h = and_from (not (has_module seen coord.«module»)) true (rw append-nil at h) refl
