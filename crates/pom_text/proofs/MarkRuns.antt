@@ -14,9 +14,9 @@ use Rattle.pom_grammar.specs.Encodings.{IsText, next_tail, tails, goes_on}
 use Rattle.pom_grammar.specs.Document.{Quote, single, double, quote_byte, Mark, dashes, question, brackets, backward}
 use Rattle.pom_grammar.specs.Machine.{OpenElement, Kind, in_run, in_name, in_label, in_quotes, in_marks, OpenElements, in_segment, stops, step, marked, after, if_whole, if_some_tail}
 use Rattle.pom_grammar.specs.Verdicts.{verdict, stepped}
-use Rattle.pom_grammar.proofs.CallerLemmas.{tails_more, tails_one, apart, ascii_next}
 use Rattle.pom_text.specs.Scans.{Faults, Runs, Breaks, MarkRun, sign_of, least_of, leading, marked_verdict, cdata_state, IsNaming}
-use Rattle.pom_text.proofs.Runs.{goes_step, onto_append, slice_join}
+use Rattle.pom_text.proofs.Bytes.{apart, onto_append, tails_more, tails_one, ascii_next}
+use Rattle.pom_text.proofs.Runs.{goes_step, slice_join}
 
 pub naming_quiet : (kind : Kind) (c : ℕ) → IsNaming kind → is_name_byte c ≡ true → (seen : List ℕ)
     → stops kind seen c ≡ false
@@ -128,7 +128,7 @@ module _ (e : Encoding) (bytes : List ℕ) (sign least : ℕ) where
       let now : List ℕ = onto (slice_range bytes i j) [] in
       let more : slice_range bytes i (j + 1) ≡ slice_range bytes i j ++ c ∷ [] = between_more bytes i j 0 forth h in
       let then : onto (slice_range bytes i (j + 1)) [] ≡ c ∷ now = ap (λ x. onto x []) more
-      ∙ onto_append e bytes (slice_range bytes i j) (c ∷ []) [] in
+      ∙ onto_append (slice_range bytes i j) (c ∷ []) [] in
       record {
         forth = omega arith;
         within = omega arith;
@@ -163,7 +163,7 @@ module _ (e : Encoding) (bytes : List ℕ) (sign least : ℕ) where
       let within : k ≤ length bytes = one.within in
       let all = slice_join e bytes i j k forth (omega arith) in
       let then : onto (slice_range bytes i k) [] ≡ onto (slice_range bytes j k) (onto (slice_range bytes i j) []) =
-      ap (λ x. onto x []) all ∙ onto_append e bytes (slice_range bytes i j) (slice_range bytes j k) [] in
+      ap (λ x. onto x []) all ∙ onto_append (slice_range bytes i j) (slice_range bytes j k) [] in
       let long : length (slice_range bytes j k) ≡ k - j = length-between bytes j k within in
       record {
         forth = omega arith;

@@ -16,10 +16,10 @@ use Rattle.pom_grammar.specs.References.{expanded}
 use Rattle.pom_grammar.specs.Document.{dashes, question, brackets, backward}
 use Rattle.pom_grammar.specs.Machine.{OpenElement, OpenElements, outside, within, in_run, in_marks, between, opened, bang, after_dash, in_segment, back, with_text, has_none, step}
 use Rattle.pom_grammar.specs.Verdicts.{verdict, deep_fault, doctype_fault, root_fault}
-use Rattle.pom_grammar.proofs.CallerLemmas.{forward-onto, onto_one}
 use Rattle.pom_text.specs.declared.tree.Frame.{Frame}
 use Rattle.pom_text.specs.Scans.{Goes, Faults, Runs, marked_verdict, cdata_state}
 use Rattle.pom_text.specs.Views.{frame_view, nest, doctype_test}
+use Rattle.pom_text.proofs.Bytes.{forward-onto, onto_append}
 use Rattle.pom_text.proofs.Runs.{goes_step, stops_with, ends_bad}
 use Rattle.pom_text.proofs.TagFacts.{stays, nest_one, some_within}
 use Rattle.pom_text.proofs.TextFacts.{text_split}
@@ -56,8 +56,8 @@ inner_of e bytes start end (suc (suc n)) f h is g =
     let second : slice_range bytes start (end - 2) ≡ inner ++ a ∷ [] = ap (slice_range bytes start) (omega (arith, f))
     ∙ between_more bytes start (end - 3) 0 (omega (arith, f)) (omega (arith, f, h)) in
     let seen : onto (slice_range bytes start (end - 1)) [] ≡ b ∷ (a ∷ onto inner []) =
-    ap (λ x. onto x []) last ∙ onto_one (slice_range bytes start (end - 2)) [] b ∙ ap (λ x. b ∷ onto x []) second
-    ∙ ap (λ x. b ∷ x) (onto_one inner [] a) in
+    ap (λ x. onto x []) last ∙ onto_append (slice_range bytes start (end - 2)) (b ∷ []) [] ∙ ap (λ x. b ∷ onto x []) second
+    ∙ ap (λ x. b ∷ x) (onto_append inner (a ∷ []) []) in
     let both = and_parts (b == 93) (a == 93 && true) (ap (begins_with (93 ∷ (93 ∷ []))) (sym seen) ∙ g) in
     let one = and_parts (a == 93) true both.1 in
     let prefix : IsText e (slice_range bytes start (end - 2)) =

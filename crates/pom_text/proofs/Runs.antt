@@ -16,8 +16,8 @@ use Rattle.pom_grammar.specs.Characters.{is_high, onto}
 use Rattle.pom_grammar.specs.Encodings.{next_tail, tails, goes_on, if_between}
 use Rattle.pom_grammar.specs.Machine.{Kind, State, in_segment, stops, step, outcome, after, if_whole, if_some_tail}
 use Rattle.pom_grammar.specs.Verdicts.{verdict, fault_at, ended, stepped}
-use Rattle.pom_grammar.proofs.CallerLemmas.{every_one, tails_more, tails_one, high_quiet, ascii_next}
 use Rattle.pom_text.specs.Scans.{Goes, Faults, Runs, Breaks, Partial, is_whole}
+use Rattle.pom_text.proofs.Bytes.{every_one, onto_append, tails_more, tails_one, ascii_next}
 
 -- a byte that goes on with a character is past ASCII
 between_high : (low high : ℕ) (left next : Tail) (c : ℕ) → 128 ≤ low → if_between low high left c ≡ Some next
@@ -52,6 +52,10 @@ if_not_whole : (tail : Tail) (next : Option State) → is_whole tail ≡ false �
 if_not_whole Whole next f = absurd (false≢true (sym f))
 if_not_whole tail next f = refl
 
+-- no byte past ASCII ends a run
+abbrev pub AsciiEnds : Type 0
+AsciiEnds = (kind : Kind) (seen : List ℕ) (c : ℕ) → is_high c ≡ true → stops kind seen c ≡ false
+
 module _ (e : Encoding) (bytes : List ℕ) where
   pub goes_step : (s t : State) (i : ℕ) → i < length bytes → step e s (get_or bytes i 0) ≡ Some t
       → Goes e bytes s i t (i + 1)
@@ -69,10 +73,6 @@ module _ (e : Encoding) (bytes : List ℕ) where
 
   pub ends_bad : (s : State) (i : ℕ) → length bytes ≤ i → outcome s ≡ None → Faults e bytes s i (BadText i)
   ends_bad s i h f = ap (λ x. verdict e s x i) (drop_all i bytes h) ∙ ap (λ o. ended o i) f
-
-  pub onto_append : (xs ys seen : List ℕ) → onto (xs ++ ys) seen ≡ onto ys (onto xs seen)
-  onto_append [] ys seen = refl
-  onto_append (x ∷ xs) ys seen = onto_append xs ys (x ∷ seen)
 
   take_both : (m n : ℕ) (xs : List ℕ) → take (m + n) xs ≡ take m xs ++ take n (drop m xs)
   take_both m n xs =
@@ -161,10 +161,10 @@ module _ (e : Encoding) (bytes : List ℕ) where
         goes = runs.goes;
       }
 
-  pub partial_more : (kind : Kind) (i j : ℕ) (tail next : Tail) → j < length bytes → Partial e bytes kind i j tail
+  pub partial_more : AsciiEnds → (kind : Kind) (i j : ℕ) (tail next : Tail) → j < length bytes → Partial e bytes kind i j tail
       → (is_whole tail ≡ true → is_high (get_or bytes j 0) ≡ true) → next_tail e tail (get_or bytes j 0) ≡ Some next
       → Partial e bytes kind i (j + 1) next
-  partial_more kind i j tail next h partial f g =
+  partial_more quiet kind i j tail next h partial f g =
       let forth : i ≤ j = partial.forth in
       let c : ℕ = get_or bytes j 0 in
       let more : slice_range bytes i (j + 1) ≡ slice_range bytes i j ++ c ∷ [] = between_more bytes i j 0 forth h in
@@ -181,7 +181,7 @@ module _ (e : Encoding) (bytes : List ℕ) where
             ∙ goes_step (in_segment kind place now tail) (in_segment kind place (c ∷ now) next) j h
             (ap (λ b. cond b (if_whole tail (after e kind place now c))
             (if_some_tail (next_tail e tail c) (λ t. Some (in_segment kind place (c ∷ now) t))))
-            (high_quiet kind now c high)
+            (quiet kind now c high)
             ∙ ap (λ o. if_some_tail o (λ t. Some (in_segment kind place (c ∷ now) t))) g)
             ∙ ap (λ x. verdict e (in_segment kind place x next) (drop (j + 1) bytes) (j + 1))
             (sym (onto_append (slice_range bytes i j) (c ∷ []) seen) ∙ ap (λ x. onto x seen) (sym more));
@@ -199,10 +199,10 @@ module _ (e : Encoding) (bytes : List ℕ) where
             ∙ ap (λ t. verdict e (in_segment kind place (onto (slice_range bytes i j) seen) t) (drop j bytes) j) whole;
       }
 
-  pub partial_stops : (kind : Kind) (i j : ℕ) (tail : Tail) → j < length bytes → Partial e bytes kind i j tail
+  pub partial_stops : AsciiEnds → (kind : Kind) (i j : ℕ) (tail : Tail) → j < length bytes → Partial e bytes kind i j tail
       → (is_whole tail ≡ true → is_high (get_or bytes j 0) ≡ true) → next_tail e tail (get_or bytes j 0) ≡ None
       → Breaks e bytes kind i (BadText j)
-  partial_stops kind i j tail h partial f g = λ place seen.
+  partial_stops quiet kind i j tail h partial f g = λ place seen.
       let now : List ℕ = onto (slice_range bytes i j) seen in
       let c : ℕ = get_or bytes j 0 in
       let none : step e (in_segment kind place now tail) c ≡ None =
@@ -210,7 +210,7 @@ module _ (e : Encoding) (bytes : List ℕ) where
         | inl a ↦ ap
             (λ b. cond b (if_whole tail (after e kind place now c))
             (if_some_tail (next_tail e tail c) (λ t. Some (in_segment kind place (c ∷ now) t))))
-            (high_quiet kind now c (f a)) ∙ ap (λ o. if_some_tail o (λ t. Some (in_segment kind place (c ∷ now) t))) g
+            (quiet kind now c (f a)) ∙ ap (λ o. if_some_tail o (λ t. Some (in_segment kind place (c ∷ now) t))) g
         | inr a ↦ elim (cases_Bool (stops kind now c)) [
           | inl b ↦ ap
               (λ x. cond x (if_whole tail (after e kind place now c))

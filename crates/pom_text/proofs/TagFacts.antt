@@ -16,12 +16,12 @@ use Rattle.pom_grammar.specs.Encodings.{next_tail, utf8_of}
 use Rattle.pom_grammar.specs.Document.{Quote, single, double, quote_byte}
 use Rattle.pom_grammar.specs.Machine.{OpenElement, OpenElements, outside, within, depth, in_name, in_label, in_quotes, spaced, equals, value, closed, after_slash, State, opened, in_segment, in_tag, in_end, after_name, back, fresh, with_child, tree_of, may_open, has_none, step, outcome, tag_step, if_some_tail, if_whole, after}
 use Rattle.pom_grammar.specs.Verdicts.{verdict, ended, stepped, deep_fault}
-use Rattle.pom_grammar.proofs.CallerLemmas.{forward-onto, space_no_name}
 use Rattle.pom_grammar.specs.Heads.{is_alive}
 use Rattle.pom_text.specs.declared.tree.Frame.{Frame}
 use Rattle.pom_text.specs.declared.tags.TagEnd.{TagEnd}
 use Rattle.pom_text.specs.Scans.{Goes, Faults, Runs, Breaks}
 use Rattle.pom_text.specs.Views.{frame_view, nest, tag_state, AsTag}
+use Rattle.pom_text.proofs.Bytes.{forward-onto}
 use Rattle.pom_text.proofs.Runs.{goes_step, stops_with, ends_bad, slice_join}
 
 every_prefix : (p : ℕ → Bool) (xs ys : List ℕ) → list_all p (xs ++ ys) ≡ true
@@ -31,6 +31,10 @@ every_prefix p (x ∷ xs) ys f =
     let both = and_parts (p x) (list_all p (xs ++ ys)) f in
     let on = every_prefix p xs ys both.1 in
     (rw (both.0, on.0) refl, on.1)
+
+-- no white space is such a byte
+abbrev NoSpace : (ℕ → Bool) → Type 0
+NoSpace p = (c : ℕ) → is_white c ≡ true → p c ≡ false
 
 module _ (e : Encoding) (bytes : List ℕ) where
   -- a state that stays over white space
@@ -70,9 +74,9 @@ module _ (e : Encoding) (bytes : List ℕ) where
       let first = and_parts (is_white (get_or bytes i 0)) true both.0 in
       goes_step e bytes s t i (omega arith) (f (get_or bytes i 0) first.0) ∙ stays t g (i + 1) j (omega arith) k both.1
 
-  label_space : (name seen : List ℕ) (place : OpenElements) (c : ℕ) → is_white c ≡ true
+  label_space : NoSpace is_name_byte → (name seen : List ℕ) (place : OpenElements) (c : ℕ) → is_white c ≡ true
       → step e (in_segment (in_label name) place seen Whole) c ≡ Some (in_tag equals name place)
-  label_space name seen place c f = rw ((space_no_name c f).1, f) refl
+  label_space apart name seen place c f = rw (apart c f, f) refl
 
   equals_space : (name : List ℕ) (place : OpenElements) (c : ℕ) → is_white c ≡ true
       → step e (in_tag equals name place) c ≡ Some (in_tag equals name place)
@@ -82,24 +86,24 @@ module _ (e : Encoding) (bytes : List ℕ) where
       → step e (in_tag value name place) c ≡ Some (in_tag value name place)
   value_space name place c f = rw f refl
 
-  spaced_space : (name : List ℕ) (place : OpenElements) (c : ℕ) → is_white c ≡ true
+  spaced_space : NoSpace is_name_start → (name : List ℕ) (place : OpenElements) (c : ℕ) → is_white c ≡ true
       → step e (in_tag spaced name place) c ≡ Some (in_tag spaced name place)
-  spaced_space name place c f = rw ((space_no_name c f).0, f) refl
+  spaced_space apart name place c f = rw (apart c f, f) refl
 
   closed_space : (name : List ℕ) (place : OpenElements) (c : ℕ) → is_white c ≡ true
       → step e (in_tag closed name place) c ≡ Some (in_tag spaced name place)
   closed_space name place c f = rw f refl
 
   -- after an attribute's name
-  pub equals_goes : (name seen : List ℕ) (place : OpenElements) (i j k : ℕ) → i ≤ j → j < length bytes
+  pub equals_goes : NoSpace is_name_byte → (name seen : List ℕ) (place : OpenElements) (i j k : ℕ) → i ≤ j → j < length bytes
       → list_all is_white (slice_range bytes i j) ≡ true → get_or bytes j 0 ≡ 61 → j + 1 ≤ k → k ≤ length bytes
       → list_all is_white (slice_range bytes (j + 1) k) ≡ true
       → Goes e bytes (in_segment (in_label name) place seen Whole) i (in_tag value name place) k
-  equals_goes name seen place i j k h inside f is l past g =
+  equals_goes apart name seen place i j k h inside f is l past g =
       elim (cases_lt i j) [
         | inl some ↦
             leaves (in_segment (in_label name) place seen Whole) (in_tag equals name place)
-            (label_space name seen place) (equals_space name place) i j some (omega (arith, inside)) f
+            (label_space apart name seen place) (equals_space name place) i j some (omega (arith, inside)) f
             ∙ goes_step e bytes (in_tag equals name place) (in_tag value name place) j inside
             (ap (step e (in_tag equals name place)) is)
             ∙ stays (in_tag value name place) (value_space name place) (j + 1) k l past g
@@ -119,15 +123,15 @@ module _ (e : Encoding) (bytes : List ℕ) where
       → (c ≡ 61 → ⊥) → step e (in_segment (in_label name) place seen Whole) c ≡ None
   label_none name seen place c h f g = rw (h, f, ne_eqb c 61 g) refl
 
-  pub equals_breaks : (name seen : List ℕ) (place : OpenElements) (i j : ℕ) → i ≤ j → j ≤ length bytes
+  pub equals_breaks : NoSpace is_name_byte → (name seen : List ℕ) (place : OpenElements) (i j : ℕ) → i ≤ j → j ≤ length bytes
       → list_all is_white (slice_range bytes i j) ≡ true → is_name_byte (get_or bytes i 0) ≡ false
       → (j < length bytes → is_white (get_or bytes j 0) ≡ false) → (j < length bytes → get_or bytes j 0 ≡ 61 → ⊥)
       → Faults e bytes (in_segment (in_label name) place seen Whole) i (BadText j)
-  equals_breaks name seen place i j h inside f stop no_space not_equals =
+  equals_breaks apart name seen place i j h inside f stop no_space not_equals =
       elim (cases_lt i j) [
         | inl some ↦
             leaves (in_segment (in_label name) place seen Whole) (in_tag equals name place)
-            (label_space name seen place) (equals_space name place) i j some inside f
+            (label_space apart name seen place) (equals_space name place) i j some inside f
             ∙ elim (cases_lt j (length bytes)) [
               | inl here ↦ stops_with e bytes (in_tag equals name place) (BadText j) j here
                   (equals_none name place (get_or bytes j 0) (no_space here) (not_equals here)) refl
@@ -273,12 +277,12 @@ module _ (e : Encoding) (bytes : List ℕ) where
       ]
 
   -- white space after a value, before an attribute or the end
-  pub to_spaced : (name : List ℕ) (place : OpenElements) (i j : ℕ) → i < j → j ≤ length bytes
+  pub to_spaced : NoSpace is_name_start → (name : List ℕ) (place : OpenElements) (i j : ℕ) → i < j → j ≤ length bytes
       → list_all is_white (slice_range bytes i j) ≡ true
       → Goes e bytes (in_tag closed name place) i (in_tag spaced name place) j
-  to_spaced name place i j h k f =
+  to_spaced apart name place i j h k f =
       leaves (in_tag closed name place) (in_tag spaced name place) (closed_space name place)
-      (spaced_space name place) i j h k f
+      (spaced_space apart name place) i j h k f
 
 -- the stack of open elements
 pub nest_one : (place : OpenElements) (frames : List Frame) (frame : Frame)
