@@ -1,6 +1,6 @@
 -- How a declaration is read.
 use Rattle.std.proofs.Common.{◌≡◌, ℕ, inl, inr, ◌+◌, ◌<◌, ◌≤◌, true, false, cond, ◌&&◌, List, [], ◌∷◌, ◌++◌, length, drop, get_or, refl, sym, ◌∙◌, ap, arith, Option, Some, None}
-use Rattle.std.specs.Prelude.{◌==◌, slice_range, Err, codes}
+use Rattle.std.specs.Prelude.{◌==◌, slice_range, codes}
 use Rattle.std.proofs.lemmas.Bool.{and_parts, false≢true, eqb-true, ne_eqb, cases_Bool, cases_lt}
 use Rattle.std.proofs.lemmas.List.{drop_more, drop_all, drop-drop}
 use Rattle.std.proofs.lemmas.List.Edits.{between_more}
@@ -68,23 +68,6 @@ module _ (bytes : List ℕ) where
       ∙ ap (λ b. stepped (cond b (Some (in_declaration space (c ∷ seen) next)) None) (BadText i)
       (λ t. reading_verdict t (drop (i + 1) bytes) (i + 1))) k
 
-  pub declaration_dies : (space i : ℕ) (seen : List ℕ) (telling next : Telling) → i < length bytes
-      → (ends_question seen && get_or bytes i 0 == 62) ≡ false → next ≡ next_telling telling (get_or bytes i 0)
-      → may_go_on next ≡ false
-      → reading_verdict (in_declaration space seen telling) (drop i bytes) i ≡ Err (BadText i)
-  declaration_dies space i seen telling next h f g k =
-      let c : ℕ = get_or bytes i 0 in
-      ap (λ x. reading_verdict (in_declaration space seen telling) x i) (drop_more bytes i 0 h)
-      ∙ ap (λ b. stepped
-      (cond b (body_in (encoding_of telling.found) telling)
-      (cond (may_go_on (next_telling telling c))
-      (Some (in_declaration space (c ∷ seen) (next_telling telling c))) None)) (BadText i)
-      (λ t. reading_verdict t (drop (i + 1) bytes) (i + 1))) (end_is seen c ∙ f)
-      ∙ ap (λ n. stepped (cond (may_go_on n) (Some (in_declaration space (c ∷ seen) n)) None) (BadText i)
-      (λ t. reading_verdict t (drop (i + 1) bytes) (i + 1))) (sym g)
-      ∙ ap (λ b. stepped (cond b (Some (in_declaration space (c ∷ seen) next)) None) (BadText i)
-      (λ t. reading_verdict t (drop (i + 1) bytes) (i + 1))) k
-
   pub declaration_ends : (space i : ℕ) (seen : List ℕ) (telling : Telling) (next : Option Reading) → i < length bytes
       → (ends_question seen && get_or bytes i 0 == 62) ≡ true → body_in (encoding_of telling.found) telling ≡ next
       → reading_verdict (in_declaration space seen telling) (drop i bytes) i
@@ -98,11 +81,6 @@ module _ (bytes : List ℕ) where
       (Some (in_declaration space (c ∷ seen) (next_telling telling c))) None)) (BadText i)
       (λ t. reading_verdict t (drop (i + 1) bytes) (i + 1))) (end_is seen c ∙ f)
       ∙ ap (λ o. stepped o (BadText i) (λ t. reading_verdict t (drop (i + 1) bytes) (i + 1))) g
-
-  pub declaration_past : (space i : ℕ) (seen : List ℕ) (telling : Telling) → length bytes ≤ i
-      → reading_verdict (in_declaration space seen telling) (drop i bytes) i ≡ Err (BadText i)
-  declaration_past space i seen telling h =
-      ap (λ x. reading_verdict (in_declaration space seen telling) x i) (drop_all i bytes h)
 
   pub seen_more : (at i : ℕ) → at ≤ i → i < length bytes
       → onto (slice_range bytes at (i + 1)) [] ≡ get_or bytes i 0 ∷ onto (slice_range bytes at i) []

@@ -3,9 +3,9 @@ use Rattle.std.proofs.Common.{◌≡◌, ℕ, inl, inr, ◌+◌, ◌-◌, ◌<�
 use Rattle.std.specs.Prelude.{nat_lt, nat_le, slice_range, Err}
 use Rattle.std.proofs.lemmas.Bool.{and_parts, leb-true, le-leb, false≢true, cases_Bool}
 use Rattle.std.proofs.lemmas.List.{drop_more, drop_all, take-append-drop, drop-drop, take-take, drop-take}
-use Rattle.std.proofs.lemmas.List.Edits.{between_none, between_more}
+use Rattle.std.proofs.lemmas.List.Edits.{between_more}
 use Rattle.std.specs.List.{list_all}
-use Rattle.ascii_bytes.specs.Classes.{is_white, between}
+use Rattle.ascii_bytes.specs.Classes.{between}
 use Rattle.pom_grammar.specs.declared.encoding.Encoding.{Encoding}
 use Rattle.pom_grammar.specs.declared.encoding.Encoding.TheVariants.{Utf8, Ascii, Latin1}
 use Rattle.pom_grammar.specs.declared.encoding.Tail.{Tail}
@@ -88,17 +88,6 @@ module _ (e : Encoding) (bytes : List ℕ) where
       ∙ ap (λ x. take (j - i) (drop i bytes) ++ take (k - j) x)
       (drop-drop (j - i) i bytes ∙ ap (λ n. drop n bytes) there)
 
-  pub runs_none : (kind : Kind) (i : ℕ) → i ≤ length bytes → Runs e bytes kind i i
-  runs_none kind i h =
-      let none : slice_range bytes i i ≡ [] = between_none bytes i in
-      record {
-        forth = omega arith;
-        within = h;
-        is_text = ap (tails e Whole) none;
-        goes = λ place seen. ap (λ x. verdict e (in_segment kind place (onto x seen) Whole) (drop i bytes) i)
-            (sym none);
-      }
-
   pub runs_one : (kind : Kind) (i j : ℕ) → j < length bytes → nat_lt (get_or bytes j 0) 128 ≡ true
       → ((seen : List ℕ) → stops kind seen (get_or bytes j 0) ≡ false) → Runs e bytes kind i j
       → Runs e bytes kind i (j + 1)
@@ -150,17 +139,6 @@ module _ (e : Encoding) (bytes : List ℕ) where
   breaks_end kind i h = λ place seen. ends_bad (in_segment kind place seen Whole) i h refl
 
   -- so far into a character
-  pub partial_none : (kind : Kind) (i : ℕ) → i ≤ length bytes → Partial e bytes kind i i Whole
-  partial_none kind i h = let runs =
-      runs_none kind i h in record {
-        forth = runs.forth;
-        within = h;
-        lacks = runs.is_text;
-        high =
-            ap (list_all is_high) (between_none bytes i);
-        goes = runs.goes;
-      }
-
   pub partial_more : AsciiEnds → (kind : Kind) (i j : ℕ) (tail next : Tail) → j < length bytes → Partial e bytes kind i j tail
       → (is_whole tail ≡ true → is_high (get_or bytes j 0) ≡ true) → next_tail e tail (get_or bytes j 0) ≡ Some next
       → Partial e bytes kind i (j + 1) next
@@ -228,9 +206,3 @@ module _ (e : Encoding) (bytes : List ℕ) where
       → Breaks e bytes kind i (BadText j)
   partial_ends kind i j tail h partial = λ place seen. partial.goes place seen
       ∙ ends_bad (in_segment kind place (onto (slice_range bytes i j) seen) tail) j h refl
-
-pub spaces_more : (bytes : List ℕ) (at i : ℕ) → at ≤ i → i < length bytes
-    → list_all is_white (slice_range bytes at i) ≡ true → is_white (get_or bytes i 0) ≡ true
-    → list_all is_white (slice_range bytes at (i + 1)) ≡ true
-spaces_more bytes at i f h g k = ap (list_all is_white) (between_more bytes at i 0 f h)
-    ∙ every_one is_white (slice_range bytes at i) (get_or bytes i 0) g k

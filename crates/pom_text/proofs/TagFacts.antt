@@ -1,8 +1,8 @@
 -- How a start tag and an end tag are read.
-use Rattle.std.proofs.Common.{◌≡◌, ℕ, inl, inr, ◌⊎◌, zero, suc, ◌+◌, ◌-◌, ◌<◌, ◌≤◌, Bool, true, false, cond, not, ◌&&◌, ◌||◌, List, [], ◌∷◌, ◌++◌, length, take, drop, get_or, refl, sym, ◌∙◌, ap, arith, Option, Some, None}
+use Rattle.std.proofs.Common.{◌≡◌, ℕ, inl, inr, ◌⊎◌, zero, suc, ◌+◌, ◌-◌, ◌<◌, ◌≤◌, Bool, true, false, cond, not, ◌&&◌, ◌||◌, List, [], ◌∷◌, ◌++◌, length, drop, get_or, refl, sym, ◌∙◌, ap, arith, Option, Some, None}
 use Rattle.std.specs.Prelude.{◌==◌, slice_range, Err}
 use Rattle.std.proofs.lemmas.Bool.{and_right, and_parts, false≢true, eqb-true, eq-eqb, ne_eqb, cases_Bool, cases_lt, not-true}
-use Rattle.std.proofs.lemmas.List.{drop_more, drop_all, take_more}
+use Rattle.std.proofs.lemmas.List.{drop_more, drop_all}
 use Rattle.std.proofs.lemmas.List.Edits.{between_none, between_more}
 use Rattle.std.specs.List.{list_all}
 use Rattle.ascii_bytes.specs.Classes.{is_white, between}
@@ -14,12 +14,12 @@ use Rattle.pom_grammar.specs.declared.tree.TextErr.TheVariants.{BadText, TooDeep
 use Rattle.pom_grammar.specs.Characters.{is_name_start, is_name_byte, forward, onto, local}
 use Rattle.pom_grammar.specs.Encodings.{next_tail, utf8_of}
 use Rattle.pom_grammar.specs.Document.{Quote, single, double, quote_byte}
-use Rattle.pom_grammar.specs.Machine.{OpenElement, OpenElements, outside, within, depth, in_name, in_label, in_quotes, spaced, equals, value, closed, after_slash, State, opened, in_segment, in_tag, in_end, after_name, back, fresh, with_child, tree_of, may_open, has_none, step, outcome, tag_step, if_some_tail, if_whole, after}
+use Rattle.pom_grammar.specs.Machine.{OpenElement, OpenElements, outside, within, depth, in_name, in_label, in_quotes, spaced, equals, value, closed, after_slash, State, opened, in_segment, in_tag, in_end, after_name, back, fresh, with_child, tree_of, may_open, step, outcome, tag_step, if_some_tail, if_whole, after}
 use Rattle.pom_grammar.specs.Verdicts.{verdict, ended, stepped, deep_fault}
 use Rattle.pom_grammar.specs.Heads.{is_alive}
 use Rattle.pom_text.specs.declared.tree.Frame.{Frame}
 use Rattle.pom_text.specs.declared.tags.TagEnd.{TagEnd}
-use Rattle.pom_text.specs.Scans.{Goes, Faults, Runs, Breaks}
+use Rattle.pom_text.specs.Scans.{Goes, Faults, Runs}
 use Rattle.pom_text.specs.Views.{frame_view, nest, tag_state, AsTag}
 use Rattle.pom_text.proofs.Bytes.{forward-onto}
 use Rattle.pom_text.proofs.Runs.{goes_step, stops_with, ends_bad, slice_join}
@@ -175,23 +175,6 @@ module _ (e : Encoding) (bytes : List ℕ) where
       (ap (step e (in_segment (in_quotes q name) place (onto (slice_range bytes (i + 1) j) []) Whole)) g
       ∙ close_quote name (onto (slice_range bytes (i + 1) j) []) place q)
 
-  pub value_breaks : (name : List ℕ) (place : OpenElements) (q : Quote) (i : ℕ) (fault : TextErr) → i < length bytes
-      → get_or bytes i 0 ≡ quote_byte q → Breaks e bytes (in_quotes q name) (i + 1) fault
-      → Faults e bytes (in_tag value name place) i fault
-  value_breaks name place q i fault h f breaks =
-      goes_step e bytes (in_tag value name place) (in_segment (in_quotes q name) place [] Whole) i h
-      (ap (step e (in_tag value name place)) f ∙ open_quote name place q) ∙ breaks place []
-
-  pub no_value : (name : List ℕ) (place : OpenElements) (i : ℕ)
-      → (i < length bytes → is_white (get_or bytes i 0) ≡ false) → (i < length bytes → get_or bytes i 0 ≡ 34 → ⊥)
-      → (i < length bytes → get_or bytes i 0 ≡ 39 → ⊥) → Faults e bytes (in_tag value name place) i (BadText i)
-  no_value name place i f g k =
-      elim (cases_lt i (length bytes)) [
-        | inl here ↦ stops_with e bytes (in_tag value name place) (BadText i) i here
-            (rw (f here, ne_eqb (get_or bytes i 0) 34 (g here), ne_eqb (get_or bytes i 0) 39 (k here)) refl) refl
-        | inr past ↦ ends_bad e bytes (in_tag value name place) i past refl
-      ]
-
   -- an attribute's name begins after white space
   pub label_begins : (name : List ℕ) (place : OpenElements) (i : ℕ) → i < length bytes
       → is_name_start (get_or bytes i 0) ≡ true
@@ -233,25 +216,10 @@ module _ (e : Encoding) (bytes : List ℕ) where
       ]
 
   -- the end of a start tag
-  pub tag_goes : (s : State) (name : List ℕ) (place : OpenElements) (i : ℕ) → AsTag e bytes i s name place
-      → i < length bytes → get_or bytes i 0 ≡ 62 → Goes e bytes s i (back (within (fresh e name) place)) (i + 1)
-  tag_goes s name place i like h f =
-      goes_step e bytes s (back (within (fresh e name) place)) i h (like.steps h ∙ ap (tag_step e name place) f)
-
   to_slash : (s : State) (name : List ℕ) (place : OpenElements) (i : ℕ) → AsTag e bytes i s name place
       → i < length bytes → get_or bytes i 0 ≡ 47 → Goes e bytes s i (in_tag after_slash name place) (i + 1)
   to_slash s name place i like h f =
       goes_step e bytes s (in_tag after_slash name place) i h (like.steps h ∙ ap (tag_step e name place) f)
-
-  pub empty_goes : (s : State) (name : List ℕ) (place : OpenElements) (i : ℕ) → AsTag e bytes i s name place
-      → i + 1 < length bytes → get_or bytes i 0 ≡ 47 → get_or bytes (i + 1) 0 ≡ 62
-      → Goes e bytes s i (back (with_child place (tree_of (fresh e name)))) (i + 2)
-  empty_goes s name place i like h f g =
-      let there : i + 1 + 1 ≡ i + 2 = omega arith in
-      to_slash s name place i like (omega arith) f
-      ∙ goes_step e bytes (in_tag after_slash name place) (back (with_child place (tree_of (fresh e name)))) (i + 1) h
-      (ap (step e (in_tag after_slash name place)) g)
-      ∙ ap (λ k. verdict e (back (with_child place (tree_of (fresh e name)))) (drop k bytes) k) there
 
   pub slash_breaks : (s : State) (name : List ℕ) (place : OpenElements) (i : ℕ) → AsTag e bytes i s name place
       → i < length bytes → get_or bytes i 0 ≡ 47 → (i + 1 < length bytes → get_or bytes (i + 1) 0 ≡ 62 → ⊥)
@@ -330,11 +298,6 @@ module _ (e : Encoding) (bytes : List ℕ) where
       → may_open place ≡ false → step e (opened place) (get_or bytes i 0) ≡ None
   not_open place i h f g = rw (f, g) refl
 
-  pub not_open_outside : (root : Option Tree) (i : ℕ) → i < length bytes → is_name_start (get_or bytes i 0) ≡ true
-      → has_none root ≡ false → Faults e bytes (opened (outside root)) i (BadText i)
-  not_open_outside root i h f g =
-      stops_with e bytes (opened (outside root)) (BadText i) i h (not_open (outside root) i h f g) refl
-
   is_deepest : (frame : OpenElement) (outer : OpenElements) → may_open (within frame outer) ≡ false
       → (depth outer == 63) ≡ true
   is_deepest frame outer f =
@@ -347,14 +310,6 @@ module _ (e : Encoding) (bytes : List ℕ) where
   too_deep frame outer i h f g k =
       stops_with e bytes (opened (within frame outer)) (TooDeep (i - 1)) i h (not_open (within frame outer) i h f g)
       (rw (f, k, is_deepest frame outer g) refl)
-
-  pub deep_bad : (frame : OpenElement) (outer : OpenElements) (i : ℕ) → i < length bytes
-      → is_name_start (get_or bytes i 0) ≡ true → may_open (within frame outer) ≡ false
-      → is_alive (next_tail e Whole (get_or bytes i 0)) ≡ false
-      → Faults e bytes (opened (within frame outer)) i (BadText i)
-  deep_bad frame outer i h f g k =
-      stops_with e bytes (opened (within frame outer)) (BadText i) i h (not_open (within frame outer) i h f g)
-      (rw (f, k) refl)
 
   -- a name begins where an element may open
   bad_start : (place : OpenElements) (c : ℕ) (k : ℕ) → may_open place ≡ true → deep_fault e place c k ≡ BadText k
@@ -408,37 +363,6 @@ module _ (e : Encoding) (bytes : List ℕ) where
   slash_goes frame outer i h f =
       goes_step e bytes (opened (within frame outer)) (in_end [] frame.name frame outer) i h
       (ap (step e (opened (within frame outer))) f)
-
-  pub slash_outside : (root : Option Tree) (i : ℕ) → i < length bytes → get_or bytes i 0 ≡ 47
-      → Faults e bytes (opened (outside root)) i (BadText i)
-  slash_outside root i h f =
-      stops_with e bytes (opened (outside root)) (BadText i) i h (ap (step e (opened (outside root))) f) refl
-
-  pub letter_goes : (raw : List ℕ) (frame : OpenElement) (outer : OpenElements) (k i : ℕ) → k < length raw
-      → i < length bytes → get_or bytes i 0 ≡ get_or raw k 0
-      → Goes e bytes (in_end (take k raw) (drop k raw) frame outer) i
-      (in_end (take (k + 1) raw) (drop (k + 1) raw) frame outer) (i + 1)
-  letter_goes raw frame outer k i h f g =
-      ap (λ x. verdict e (in_end (take k raw) x frame outer) (drop i bytes) i) (drop_more raw k 0 h)
-      ∙ goes_step e bytes (in_end (take k raw) (get_or raw k 0 ∷ drop (k + 1) raw) frame outer)
-      (in_end (take k raw ++ get_or raw k 0 ∷ []) (drop (k + 1) raw) frame outer) i f
-      (ap (λ b. cond b (Some (in_end (take k raw ++ get_or raw k 0 ∷ []) (drop (k + 1) raw) frame outer)) None)
-      (eq-eqb (get_or bytes i 0) (get_or raw k 0) g))
-      ∙ ap (λ x. verdict e (in_end x (drop (k + 1) raw) frame outer) (drop (i + 1) bytes) (i + 1))
-      (sym (take_more raw k 0 h))
-
-  pub letter_breaks : (raw : List ℕ) (frame : OpenElement) (outer : OpenElements) (k i : ℕ) → k < length raw
-      → (i < length bytes → get_or bytes i 0 ≡ get_or raw k 0 → ⊥)
-      → Faults e bytes (in_end (take k raw) (drop k raw) frame outer) i (BadText i)
-  letter_breaks raw frame outer k i h f =
-      ap (λ x. verdict e (in_end (take k raw) x frame outer) (drop i bytes) i) (drop_more raw k 0 h)
-      ∙ elim (cases_lt i (length bytes)) [
-        | inl here ↦ stops_with e bytes (in_end (take k raw) (get_or raw k 0 ∷ drop (k + 1) raw) frame outer)
-            (BadText i) i here
-            (ap (λ b. cond b (Some (in_end (take k raw ++ get_or raw k 0 ∷ []) (drop (k + 1) raw) frame outer)) None)
-            (ne_eqb (get_or bytes i 0) (get_or raw k 0) (f here))) refl
-        | inr past ↦ ends_bad e bytes (in_end (take k raw) (get_or raw k 0 ∷ drop (k + 1) raw) frame outer) i past refl
-      ]
 
   end_space : (done : List ℕ) (frame : OpenElement) (outer : OpenElements) (c : ℕ) → is_white c ≡ true
       → step e (in_end done [] frame outer) c ≡ Some (after_name frame outer)
