@@ -10,4 +10,3 @@ pub mod HeadLives
 pub mod Utf8
 pub mod Unknown
 pub mod OneAnswer
-pub mod CallerLemmas

@@ -5,10 +5,12 @@
 //! bytes and trees; `specs/Machine.antt` a reader; `proofs/` shows that the reader is right.
 #![tactic(auto)]
 
+mod byte_laws;
 mod encoding;
 mod laws;
 mod tree;
 
+pub use byte_laws::{ascii_ends_runs, declarations_begin, names_have_no_space, texts_are_utf8};
 pub use encoding::{Encoding, Seek, Tail};
 pub use laws::{documents_are_read, one_answer, one_tree, verdict_says};
 pub use tree::{MOST_LEVELS, TextErr, Tree};

@@ -55,16 +55,7 @@ pub tree_answered : (bytes : List ℕ) (tree : Tree) (answer : Result PomRecord 
     → whole_verdict bytes ≡ Ok tree → IsAnswered (pom_of tree) answer → IsAnswered (read_pom bytes) answer
 tree_answered bytes tree answer is due = subst (λ v. IsAnswered (of_verdict v) answer) (sym is) due
 
--- and so is the fault of their text
-pub fault_answered : (bytes : List ℕ) (fault : TextErr) → (fault ≡ no_memory) ⊎ (whole_verdict bytes ≡ Err fault)
-    → IsAnswered (read_pom bytes) (Err (of_text fault))
-fault_answered bytes (bad_text place) (inr is) = ap of_verdict is
-fault_answered bytes (doctype place) (inr is) = ap of_verdict is
-fault_answered bytes (too_deep place) (inr is) = ap of_verdict is
-fault_answered bytes (unknown_encoding place) (inr is) = ap of_verdict is
-fault_answered bytes no_memory is = tt
-fault_answered bytes fault (inl is) = subst (λ f. IsAnswered (read_pom bytes) (Err (of_text f))) (sym is) tt
-
+-- what is due is an answer
 answered_self : (answer : Result PomRecord PomErr) → IsAnswered answer answer
 answered_self (Ok pom) = refl
 answered_self (Err (BadText place)) = refl

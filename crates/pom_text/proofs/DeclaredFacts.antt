@@ -1,6 +1,6 @@
 -- How a declaration is read.
 use Rattle.std.proofs.Common.{◌≡◌, ℕ, inl, inr, ◌+◌, ◌<◌, ◌≤◌, true, false, cond, ◌&&◌, List, [], ◌∷◌, ◌++◌, length, drop, get_or, refl, sym, ◌∙◌, ap, arith, Option, Some, None}
-use Rattle.std.specs.Prelude.{◌==◌, slice_range, Err, codes}
+use Rattle.std.specs.Prelude.{◌==◌, slice_range, codes}
 use Rattle.std.proofs.lemmas.Bool.{and_parts, false≢true, eqb-true, ne_eqb, cases_Bool, cases_lt}
 use Rattle.std.proofs.lemmas.List.{drop_more, drop_all, drop-drop}
 use Rattle.std.proofs.lemmas.List.Edits.{between_more}
@@ -14,9 +14,9 @@ use Rattle.pom_grammar.specs.Document.{Quote, question, backward, quote_byte}
 use Rattle.pom_grammar.specs.Declarations.{seeking, naming, named, next_found, encoding_of, declares, declares_from, begins_space}
 use Rattle.pom_grammar.specs.Machine.{State, between, step, outcome}
 use Rattle.pom_grammar.specs.Heads.{Start, at_start, bracket, after_question, after_x, after_m, after_l, Telling, Reading, starting, in_declaration, in_body, nothing_told, next_telling, may_go_on, body_in, expected, next_start, so_far, as_body, body_reading}
-use Rattle.pom_grammar.proofs.CallerLemmas.{onto_one, declares_parts}
-use Rattle.pom_text.specs.DeclarationViews.{ends_question}
 use Rattle.pom_grammar.specs.Verdicts.{verdict, fault_at, ended, stepped, reading_verdict, unknown_from, unknown_after, unless_unknown}
+use Rattle.pom_text.specs.DeclarationViews.{ends_question}
+use Rattle.pom_text.proofs.Bytes.{onto_append}
 
 -- the value of the encoding goes on
 pub value_more : (bytes : List ℕ) (quote : Quote) (start at : ℕ) → start ≤ at → at < length bytes
@@ -68,23 +68,6 @@ module _ (bytes : List ℕ) where
       ∙ ap (λ b. stepped (cond b (Some (in_declaration space (c ∷ seen) next)) None) (BadText i)
       (λ t. reading_verdict t (drop (i + 1) bytes) (i + 1))) k
 
-  pub declaration_dies : (space i : ℕ) (seen : List ℕ) (telling next : Telling) → i < length bytes
-      → (ends_question seen && get_or bytes i 0 == 62) ≡ false → next ≡ next_telling telling (get_or bytes i 0)
-      → may_go_on next ≡ false
-      → reading_verdict (in_declaration space seen telling) (drop i bytes) i ≡ Err (BadText i)
-  declaration_dies space i seen telling next h f g k =
-      let c : ℕ = get_or bytes i 0 in
-      ap (λ x. reading_verdict (in_declaration space seen telling) x i) (drop_more bytes i 0 h)
-      ∙ ap (λ b. stepped
-      (cond b (body_in (encoding_of telling.found) telling)
-      (cond (may_go_on (next_telling telling c))
-      (Some (in_declaration space (c ∷ seen) (next_telling telling c))) None)) (BadText i)
-      (λ t. reading_verdict t (drop (i + 1) bytes) (i + 1))) (end_is seen c ∙ f)
-      ∙ ap (λ n. stepped (cond (may_go_on n) (Some (in_declaration space (c ∷ seen) n)) None) (BadText i)
-      (λ t. reading_verdict t (drop (i + 1) bytes) (i + 1))) (sym g)
-      ∙ ap (λ b. stepped (cond b (Some (in_declaration space (c ∷ seen) next)) None) (BadText i)
-      (λ t. reading_verdict t (drop (i + 1) bytes) (i + 1))) k
-
   pub declaration_ends : (space i : ℕ) (seen : List ℕ) (telling : Telling) (next : Option Reading) → i < length bytes
       → (ends_question seen && get_or bytes i 0 == 62) ≡ true → body_in (encoding_of telling.found) telling ≡ next
       → reading_verdict (in_declaration space seen telling) (drop i bytes) i
@@ -99,15 +82,10 @@ module _ (bytes : List ℕ) where
       (λ t. reading_verdict t (drop (i + 1) bytes) (i + 1))) (end_is seen c ∙ f)
       ∙ ap (λ o. stepped o (BadText i) (λ t. reading_verdict t (drop (i + 1) bytes) (i + 1))) g
 
-  pub declaration_past : (space i : ℕ) (seen : List ℕ) (telling : Telling) → length bytes ≤ i
-      → reading_verdict (in_declaration space seen telling) (drop i bytes) i ≡ Err (BadText i)
-  declaration_past space i seen telling h =
-      ap (λ x. reading_verdict (in_declaration space seen telling) x i) (drop_all i bytes h)
-
   pub seen_more : (at i : ℕ) → at ≤ i → i < length bytes
       → onto (slice_range bytes at (i + 1)) [] ≡ get_or bytes i 0 ∷ onto (slice_range bytes at i) []
   seen_more at i h k = ap (λ x. onto x []) (between_more bytes at i 0 h k)
-      ∙ onto_one (slice_range bytes at i) [] (get_or bytes i 0)
+      ∙ onto_append (slice_range bytes at i) (get_or bytes i 0 ∷ []) []
 
 -- a text that no declaration begins
 no_fault : (start : Start) (c : ℕ) (text : List ℕ) (k : ℕ) → fault_at Utf8 (as_body start) c text k ≡ BadText k
@@ -209,30 +187,32 @@ start_verdict (c ∷ text) after_l k f =
     ]
 
 -- a text that a declaration begins
-pub declared_verdict : (text : List ℕ) (k : ℕ) → declares text ≡ true
+abbrev Begun : List ℕ → Type 0
+Begun text = (space : ℕ) × (rest : List ℕ) × (is_white space ≡ true) × (text ≡ codes "<?xml" ++ space ∷ rest)
+
+declared_verdict : (text : List ℕ) (k : ℕ) → Begun text
     → (space : ℕ)
     × (reading_verdict (starting at_start) text k
     ≡ reading_verdict (in_declaration space [] nothing_told) (drop 6 text) (k + 6))
-declared_verdict text k f =
-    let d = declares_parts text f in
+declared_verdict text k d =
     let six : k + 1 + 1 + 1 + 1 + 1 + 1 ≡ k + 6 = omega arith in (
-      d.space,
-      ap (λ x. reading_verdict (starting at_start) x k) d.whole
+      d.0,
+      ap (λ x. reading_verdict (starting at_start) x k) d.3
           ∙ ap (λ b. stepped
-          (cond b (Some (in_declaration d.space [] nothing_told))
-          (body_reading Utf8 (step Utf8 (as_body after_l) d.space))) (BadText (k + 1 + 1 + 1 + 1 + 1))
-          (λ t. reading_verdict t d.rest (k + 1 + 1 + 1 + 1 + 1 + 1))) d.is_space
-          ∙ ap (reading_verdict (in_declaration d.space [] nothing_told) d.rest) six
-          ∙ ap (λ x. reading_verdict (in_declaration d.space [] nothing_told) (drop 6 x) (k + 6)) (sym d.whole),
+          (cond b (Some (in_declaration d.0 [] nothing_told))
+          (body_reading Utf8 (step Utf8 (as_body after_l) d.0))) (BadText (k + 1 + 1 + 1 + 1 + 1))
+          (λ t. reading_verdict t d.1 (k + 1 + 1 + 1 + 1 + 1 + 1))) d.2
+          ∙ ap (reading_verdict (in_declaration d.0 [] nothing_told) d.1) six
+          ∙ ap (λ x. reading_verdict (in_declaration d.0 [] nothing_told) (drop 6 x) (k + 6)) (sym d.3),
     )
 
-pub after_declared : (bytes : List ℕ) (at : ℕ) → declares (drop at bytes) ≡ true
+pub after_declared : (bytes : List ℕ) (at : ℕ) → declares (drop at bytes) ≡ true → Begun (drop at bytes)
     → (space : ℕ)
     × (unless_unknown (unknown_after at (drop at bytes)) (reading_verdict (starting at_start) (drop at bytes) at)
     ≡ unless_unknown (unknown_from 0 (seeking Nothing) false (drop (at + 6) bytes) (at + 6))
     (reading_verdict (in_declaration space [] nothing_told) (drop (at + 6) bytes) (at + 6)))
-after_declared bytes at f =
-    let on = declared_verdict (drop at bytes) at f in
+after_declared bytes at f begun =
+    let on = declared_verdict (drop at bytes) at begun in
     let there : drop 6 (drop at bytes) ≡ drop (at + 6) bytes = drop-drop 6 at bytes in (
       on.0,
       ap (λ b. unless_unknown (cond b (unknown_from 0 (seeking Nothing) false (drop 6 (drop at bytes)) (at + 6)) None)

@@ -1,4 +1,5 @@
 -- What the reader of the grammar does over each run, mark, tag and text that the code scans at once.
+pub mod Bytes
 pub mod Runs
 pub mod MarkRuns
 pub mod TableFacts

@@ -1,22 +1,20 @@
 -- How a comment, an instruction or a CDATA section goes on, and quoted values and literals.
 use Rattle.std.proofs.Common.{◌≡◌, ℕ, ◌+◌, ◌-◌, ◌<◌, ◌≤◌, true, false, cond, not, ◌&&◌, List, [], ◌∷◌, ◌++◌, length, drop, get_or, refl, sym, ◌∙◌, ap, arith, Some, None}
 use Rattle.std.specs.Prelude.{◌==◌, nat_lt, nat_le, slice_range}
-use Rattle.std.proofs.lemmas.Bool.{and_parts, and_from, leb-false, lt-ltb, le-leb, eq-eqb, ne_eqb}
+use Rattle.std.proofs.lemmas.Bool.{and_parts, leb-false, lt-ltb, le-leb, ne_eqb}
 use Rattle.std.proofs.lemmas.List.{drop_more, drop_all}
-use Rattle.std.proofs.lemmas.List.Edits.{between_none, between_more, length-between}
+use Rattle.std.proofs.lemmas.List.Edits.{between_more, length-between}
 use Rattle.std.specs.List.{list_all}
 use Rattle.pom_grammar.specs.declared.encoding.Encoding.{Encoding}
 use Rattle.pom_grammar.specs.declared.encoding.Tail.TheVariants.{Whole}
-use Rattle.pom_grammar.specs.declared.tree.TextErr.{TextErr}
-use Rattle.pom_grammar.specs.declared.tree.TextErr.TheVariants.{BadText}
 use Rattle.pom_grammar.specs.Characters.{is_high, is_name_byte, onto, begins_with}
-use Rattle.pom_grammar.specs.Encodings.{IsText, next_tail, tails, goes_on}
+use Rattle.pom_grammar.specs.Encodings.{next_tail, tails, goes_on}
 use Rattle.pom_grammar.specs.Document.{Quote, single, double, quote_byte, Mark, dashes, question, brackets, backward}
-use Rattle.pom_grammar.specs.Machine.{OpenElement, Kind, in_run, in_name, in_label, in_quotes, in_marks, OpenElements, in_segment, stops, step, marked, after, if_whole, if_some_tail}
-use Rattle.pom_grammar.specs.Verdicts.{verdict, stepped}
-use Rattle.pom_grammar.proofs.CallerLemmas.{tails_more, tails_one, apart, ascii_next}
-use Rattle.pom_text.specs.Scans.{Faults, Runs, Breaks, MarkRun, sign_of, least_of, leading, marked_verdict, cdata_state, IsNaming}
-use Rattle.pom_text.proofs.Runs.{goes_step, onto_append, slice_join}
+use Rattle.pom_grammar.specs.Machine.{Kind, in_run, in_name, in_label, in_quotes, in_marks, OpenElements, in_segment, stops, step, after, if_whole, if_some_tail}
+use Rattle.pom_grammar.specs.Verdicts.{verdict}
+use Rattle.pom_text.specs.Scans.{Runs, MarkRun, sign_of, least_of, leading, IsNaming}
+use Rattle.pom_text.proofs.Bytes.{apart, onto_append, tails_more, tails_one, ascii_next}
+use Rattle.pom_text.proofs.Runs.{goes_step, slice_join}
 
 pub naming_quiet : (kind : Kind) (c : ℕ) → IsNaming kind → is_name_byte c ≡ true → (seen : List ℕ)
     → stops kind seen c ≡ false
@@ -104,19 +102,6 @@ some_leading sign (c ∷ text) seen f g h =
     (ap (λ b. cond b (leading sign seen + 1) 0) (apart is_high c sign both.0 f))
 
 module _ (e : Encoding) (bytes : List ℕ) (sign least : ℕ) where
-  pub mark_start : (i : ℕ) → i ≤ length bytes → MarkRun e bytes sign least i i 0
-  mark_start i h =
-      let none : slice_range bytes i i ≡ [] = between_none bytes i in
-      record {
-        forth = omega arith;
-        within = h;
-        is_text = ap (tails e Whole) none;
-        count_is = ap (λ x. leading sign (onto x [])) (sym none);
-        few = omega arith;
-        goes = λ mark place f g. ap
-            (λ x. verdict e (in_segment (in_marks mark) place (onto x []) Whole) (drop i bytes) i) (sym none);
-      }
-
   -- one ASCII byte that ends nothing
   pub mark_more : (i j count : ℕ) → j < length bytes → nat_lt (get_or bytes j 0) 128 ≡ true
       → (get_or bytes j 0 == 62 && nat_le least count) ≡ false → MarkRun e bytes sign least i j count
@@ -128,7 +113,7 @@ module _ (e : Encoding) (bytes : List ℕ) (sign least : ℕ) where
       let now : List ℕ = onto (slice_range bytes i j) [] in
       let more : slice_range bytes i (j + 1) ≡ slice_range bytes i j ++ c ∷ [] = between_more bytes i j 0 forth h in
       let then : onto (slice_range bytes i (j + 1)) [] ≡ c ∷ now = ap (λ x. onto x []) more
-      ∙ onto_append e bytes (slice_range bytes i j) (c ∷ []) [] in
+      ∙ onto_append (slice_range bytes i j) (c ∷ []) [] in
       record {
         forth = omega arith;
         within = omega arith;
@@ -163,7 +148,7 @@ module _ (e : Encoding) (bytes : List ℕ) (sign least : ℕ) where
       let within : k ≤ length bytes = one.within in
       let all = slice_join e bytes i j k forth (omega arith) in
       let then : onto (slice_range bytes i k) [] ≡ onto (slice_range bytes j k) (onto (slice_range bytes i j) []) =
-      ap (λ x. onto x []) all ∙ onto_append e bytes (slice_range bytes i j) (slice_range bytes j k) [] in
+      ap (λ x. onto x []) all ∙ onto_append (slice_range bytes i j) (slice_range bytes j k) [] in
       let long : length (slice_range bytes j k) ≡ k - j = length-between bytes j k within in
       record {
         forth = omega arith;
@@ -179,57 +164,6 @@ module _ (e : Encoding) (bytes : List ℕ) (sign least : ℕ) where
             ∙ (runs (in_marks mark)).goes place (onto (slice_range bytes i j) [])
             ∙ ap (λ x. verdict e (in_segment (in_marks mark) place x Whole) (drop k bytes) k) (sym then);
       }
-
-  -- the end
-  pub mark_ends : (i j count : ℕ) → j < length bytes → get_or bytes j 0 ≡ 62 → least ≤ count
-      → MarkRun e bytes sign least i j count → (mark : Mark) (place : OpenElements) → sign_of mark ≡ sign
-      → least_of mark ≡ least
-      → verdict e (in_segment (in_marks mark) place [] Whole) (drop i bytes) i
-      ≡ marked_verdict e bytes mark place i (j + 1)
-  mark_ends i j count h f g run mark place same enough =
-      let now : List ℕ = onto (slice_range bytes i j) [] in
-      let c : ℕ = get_or bytes j 0 in
-      let last : j + 1 - 1 ≡ j = omega arith in
-      let ends : begins_with (backward mark) (c ∷ now) ≡ true =
-      mark_test mark now c ∙ ap (λ n. c == 62 && nat_le n (leading (sign_of mark) now)) enough
-      ∙ ap (λ n. c == 62 && nat_le least (leading n now)) same
-      ∙ ap (λ n. c == 62 && nat_le least n) (sym run.count_is)
-      ∙ and_from (c == 62) (nat_le least count) (eq-eqb c 62 f) (le-leb least count g) in
-      run.goes mark place same enough
-      ∙ ap (λ x. verdict e (in_segment (in_marks mark) place now Whole) x j) (drop_more bytes j 0 h)
-      ∙ ap (λ b. stepped
-      (cond b (marked e mark place now)
-      (if_some_tail (next_tail e Whole c) (λ next. Some (in_segment (in_marks mark) place (c ∷ now) next))))
-      (BadText j) (λ s. verdict e s (drop (j + 1) bytes) (j + 1))) ends
-      ∙ ap (λ k. stepped (marked e mark place (onto (slice_range bytes i k) [])) (BadText k)
-      (λ s. verdict e s (drop (j + 1) bytes) (j + 1))) (sym last)
-
-  pub mark_seen : (i j count : ℕ) → least ≤ count → MarkRun e bytes sign least i j count → (mark : Mark)
-      → sign_of mark ≡ sign → least_of mark ≡ least
-      → begins_with (backward mark) (62 ∷ onto (slice_range bytes i (j + 1 - 1)) []) ≡ true
-  mark_seen i j count g run mark same enough =
-      let now : List ℕ = onto (slice_range bytes i j) [] in
-      let last : j + 1 - 1 ≡ j = omega arith in
-      ap (λ k. begins_with (backward mark) (62 ∷ onto (slice_range bytes i k) [])) last
-      ∙ mark_test mark now 62 ∙ ap (λ n. nat_le n (leading (sign_of mark) now)) enough
-      ∙ ap (λ n. nat_le least (leading n now)) same ∙ ap (λ n. nat_le least n) (sym run.count_is)
-      ∙ le-leb least count g
-
-  pub mark_text : (i j count : ℕ) → MarkRun e bytes sign least i j count → IsText e (slice_range bytes i (j + 1 - 1))
-  mark_text i j count run = let last : j + 1 - 1 ≡ j =
-      omega arith in ap (λ k. tails e Whole (slice_range bytes i k)) last ∙ run.is_text
-
-  pub mark_stops : (i j count : ℕ) (fault : TextErr) → MarkRun e bytes sign least i j count
-      → ((kind : Kind) → Breaks e bytes kind j fault) → (mark : Mark) (place : OpenElements) → sign_of mark ≡ sign
-      → least_of mark ≡ least → Faults e bytes (in_segment (in_marks mark) place [] Whole) i fault
-  mark_stops i j count fault run breaks mark place same enough = run.goes mark place same enough
-      ∙ breaks (in_marks mark) place (onto (slice_range bytes i j) [])
-
--- a literal
-cdata_goes : (e : Encoding) (b : ℕ) (left : List ℕ) (frame : OpenElement) (outer : OpenElements)
-    → step e (cdata_state (b ∷ left) frame outer) b ≡ Some (cdata_state left frame outer)
-cdata_goes e b [] frame outer = rw (eq-eqb b b refl) refl
-cdata_goes e b (d ∷ left) frame outer = rw (eq-eqb b b refl) refl
 
 -- whether a literal stands somewhere
 pub stands_not : (bytes literal : List ℕ) (k i : ℕ) → k < length literal → i < length bytes

@@ -13,13 +13,13 @@ use Rattle.pom_grammar.specs.declared.tree.TextErr.TheVariants.{BadText, Doctype
 use Rattle.pom_grammar.specs.Characters.{is_name_start, begins_with, forward, onto}
 use Rattle.pom_grammar.specs.Encodings.{IsText, utf8_of}
 use Rattle.pom_grammar.specs.References.{expanded}
-use Rattle.pom_grammar.specs.Document.{dashes, question, brackets, backward}
+use Rattle.pom_grammar.specs.Document.{dashes, brackets, backward}
 use Rattle.pom_grammar.specs.Machine.{OpenElement, OpenElements, outside, within, in_run, in_marks, between, opened, bang, after_dash, in_segment, back, with_text, has_none, step}
 use Rattle.pom_grammar.specs.Verdicts.{verdict, deep_fault, doctype_fault, root_fault}
-use Rattle.pom_grammar.proofs.CallerLemmas.{forward-onto, onto_one}
 use Rattle.pom_text.specs.declared.tree.Frame.{Frame}
 use Rattle.pom_text.specs.Scans.{Goes, Faults, Runs, marked_verdict, cdata_state}
 use Rattle.pom_text.specs.Views.{frame_view, nest, doctype_test}
+use Rattle.pom_text.proofs.Bytes.{forward-onto, onto_append}
 use Rattle.pom_text.proofs.Runs.{goes_step, stops_with, ends_bad}
 use Rattle.pom_text.proofs.TagFacts.{stays, nest_one, some_within}
 use Rattle.pom_text.proofs.TextFacts.{text_split}
@@ -56,8 +56,8 @@ inner_of e bytes start end (suc (suc n)) f h is g =
     let second : slice_range bytes start (end - 2) ≡ inner ++ a ∷ [] = ap (slice_range bytes start) (omega (arith, f))
     ∙ between_more bytes start (end - 3) 0 (omega (arith, f)) (omega (arith, f, h)) in
     let seen : onto (slice_range bytes start (end - 1)) [] ≡ b ∷ (a ∷ onto inner []) =
-    ap (λ x. onto x []) last ∙ onto_one (slice_range bytes start (end - 2)) [] b ∙ ap (λ x. b ∷ onto x []) second
-    ∙ ap (λ x. b ∷ x) (onto_one inner [] a) in
+    ap (λ x. onto x []) last ∙ onto_append (slice_range bytes start (end - 2)) (b ∷ []) [] ∙ ap (λ x. b ∷ onto x []) second
+    ∙ ap (λ x. b ∷ x) (onto_append inner (a ∷ []) []) in
     let both = and_parts (b == 93) (a == 93 && true) (ap (begins_with (93 ∷ (93 ∷ []))) (sym seen) ∙ g) in
     let one = and_parts (a == 93) true both.1 in
     let prefix : IsText e (slice_range bytes start (end - 2)) =
@@ -93,16 +93,6 @@ module _ (e : Encoding) (bytes : List ℕ) where
   bracket_goes frame outer i h f =
       goes_step e bytes (bang (within frame outer)) (cdata_state (codes "CDATA[") frame outer) i h
       (ap (step e (bang (within frame outer))) f)
-
-  root_bracket : (root : Option Tree) (text : List ℕ) (k : ℕ) → root_fault root (91 ∷ text) k ≡ BadText k
-  root_bracket None text k = refl
-  root_bracket (Some tree) text k = refl
-
-  pub bracket_outside : (root : Option Tree) (i : ℕ) → i < length bytes → get_or bytes i 0 ≡ 91
-      → Faults e bytes (bang (outside root)) i (BadText i)
-  bracket_outside root i h f =
-      stops_with e bytes (bang (outside root)) (BadText i) i h (ap (step e (bang (outside root))) f)
-      (ap (λ c. root_fault root (c ∷ drop (i + 1) bytes) i) f ∙ root_bracket root (drop (i + 1) bytes) i)
 
   pub bang_goes : (place : OpenElements) (i : ℕ) → i < length bytes → get_or bytes i 0 ≡ 33
       → Goes e bytes (opened place) i (bang place) (i + 1)
@@ -154,11 +144,6 @@ module _ (e : Encoding) (bytes : List ℕ) where
         | inr past ↦ ends_bad e bytes (bang place) i past refl
       ]
 
-  dash_fault : (place : OpenElements) (text : List ℕ) (k : ℕ) → doctype_fault place (45 ∷ text) k ≡ BadText k
-  dash_fault (outside None) text k = refl
-  dash_fault (outside (Some tree)) text k = refl
-  dash_fault (within frame outer) text k = refl
-
   pub dash_goes : (place : OpenElements) (i : ℕ) → i < length bytes → get_or bytes i 0 ≡ 45
       → Goes e bytes (bang place) i (after_dash place) (i + 1)
   dash_goes place i h f = goes_step e bytes (bang place) (after_dash place) i h (ap (step e (bang place)) f)
@@ -171,22 +156,6 @@ module _ (e : Encoding) (bytes : List ℕ) where
       ∙ goes_step e bytes (after_dash place) (in_segment (in_marks dashes) place [] Whole) (i + 1) k
       (ap (step e (after_dash place)) g)
       ∙ ap (λ n. verdict e (in_segment (in_marks dashes) place [] Whole) (drop n bytes) n) there
-
-  pub dash_breaks : (place : OpenElements) (i : ℕ) → i < length bytes → get_or bytes i 0 ≡ 45
-      → (i + 1 < length bytes → get_or bytes (i + 1) 0 ≡ 45 → ⊥) → Faults e bytes (bang place) i (BadText (i + 1))
-  dash_breaks place i h f g =
-      dash_goes place i h f
-      ∙ elim (cases_lt (i + 1) (length bytes)) [
-        | inl here ↦ stops_with e bytes (after_dash place) (BadText (i + 1)) (i + 1) here
-            (rw (ne_eqb (get_or bytes (i + 1) 0) 45 (g here)) refl) refl
-        | inr past ↦ ends_bad e bytes (after_dash place) (i + 1) past refl
-      ]
-
-  pub question_goes : (place : OpenElements) (i : ℕ) → i < length bytes → get_or bytes i 0 ≡ 63
-      → Goes e bytes (opened place) i (in_segment (in_marks question) place [] Whole) (i + 1)
-  question_goes place i h f =
-      goes_step e bytes (opened place) (in_segment (in_marks question) place [] Whole) i h
-      (ap (step e (opened place)) f)
 
   -- no markup
   opened_none : (place : OpenElements) (c : ℕ) → is_name_start c ≡ false → (c ≡ 33 → ⊥) → (c ≡ 63 → ⊥) → (c ≡ 47 → ⊥)

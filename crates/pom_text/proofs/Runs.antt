@@ -3,9 +3,9 @@ use Rattle.std.proofs.Common.{◌≡◌, ℕ, inl, inr, ◌+◌, ◌-◌, ◌<�
 use Rattle.std.specs.Prelude.{nat_lt, nat_le, slice_range, Err}
 use Rattle.std.proofs.lemmas.Bool.{and_parts, leb-true, le-leb, false≢true, cases_Bool}
 use Rattle.std.proofs.lemmas.List.{drop_more, drop_all, take-append-drop, drop-drop, take-take, drop-take}
-use Rattle.std.proofs.lemmas.List.Edits.{between_none, between_more}
+use Rattle.std.proofs.lemmas.List.Edits.{between_more}
 use Rattle.std.specs.List.{list_all}
-use Rattle.ascii_bytes.specs.Classes.{is_white, between}
+use Rattle.ascii_bytes.specs.Classes.{between}
 use Rattle.pom_grammar.specs.declared.encoding.Encoding.{Encoding}
 use Rattle.pom_grammar.specs.declared.encoding.Encoding.TheVariants.{Utf8, Ascii, Latin1}
 use Rattle.pom_grammar.specs.declared.encoding.Tail.{Tail}
@@ -16,8 +16,8 @@ use Rattle.pom_grammar.specs.Characters.{is_high, onto}
 use Rattle.pom_grammar.specs.Encodings.{next_tail, tails, goes_on, if_between}
 use Rattle.pom_grammar.specs.Machine.{Kind, State, in_segment, stops, step, outcome, after, if_whole, if_some_tail}
 use Rattle.pom_grammar.specs.Verdicts.{verdict, fault_at, ended, stepped}
-use Rattle.pom_grammar.proofs.CallerLemmas.{every_one, tails_more, tails_one, high_quiet, ascii_next}
 use Rattle.pom_text.specs.Scans.{Goes, Faults, Runs, Breaks, Partial, is_whole}
+use Rattle.pom_text.proofs.Bytes.{every_one, onto_append, tails_more, tails_one, ascii_next}
 
 -- a byte that goes on with a character is past ASCII
 between_high : (low high : ℕ) (left next : Tail) (c : ℕ) → 128 ≤ low → if_between low high left c ≡ Some next
@@ -52,6 +52,10 @@ if_not_whole : (tail : Tail) (next : Option State) → is_whole tail ≡ false �
 if_not_whole Whole next f = absurd (false≢true (sym f))
 if_not_whole tail next f = refl
 
+-- no byte past ASCII ends a run
+abbrev pub AsciiEnds : Type 0
+AsciiEnds = (kind : Kind) (seen : List ℕ) (c : ℕ) → is_high c ≡ true → stops kind seen c ≡ false
+
 module _ (e : Encoding) (bytes : List ℕ) where
   pub goes_step : (s t : State) (i : ℕ) → i < length bytes → step e s (get_or bytes i 0) ≡ Some t
       → Goes e bytes s i t (i + 1)
@@ -70,10 +74,6 @@ module _ (e : Encoding) (bytes : List ℕ) where
   pub ends_bad : (s : State) (i : ℕ) → length bytes ≤ i → outcome s ≡ None → Faults e bytes s i (BadText i)
   ends_bad s i h f = ap (λ x. verdict e s x i) (drop_all i bytes h) ∙ ap (λ o. ended o i) f
 
-  pub onto_append : (xs ys seen : List ℕ) → onto (xs ++ ys) seen ≡ onto ys (onto xs seen)
-  onto_append [] ys seen = refl
-  onto_append (x ∷ xs) ys seen = onto_append xs ys (x ∷ seen)
-
   take_both : (m n : ℕ) (xs : List ℕ) → take (m + n) xs ≡ take m xs ++ take n (drop m xs)
   take_both m n xs =
       sym (take-append-drop m (take (m + n) xs))
@@ -87,17 +87,6 @@ module _ (e : Encoding) (bytes : List ℕ) where
       ap (λ n. take n (drop i bytes)) sum ∙ take_both (j - i) (k - j) (drop i bytes)
       ∙ ap (λ x. take (j - i) (drop i bytes) ++ take (k - j) x)
       (drop-drop (j - i) i bytes ∙ ap (λ n. drop n bytes) there)
-
-  pub runs_none : (kind : Kind) (i : ℕ) → i ≤ length bytes → Runs e bytes kind i i
-  runs_none kind i h =
-      let none : slice_range bytes i i ≡ [] = between_none bytes i in
-      record {
-        forth = omega arith;
-        within = h;
-        is_text = ap (tails e Whole) none;
-        goes = λ place seen. ap (λ x. verdict e (in_segment kind place (onto x seen) Whole) (drop i bytes) i)
-            (sym none);
-      }
 
   pub runs_one : (kind : Kind) (i j : ℕ) → j < length bytes → nat_lt (get_or bytes j 0) 128 ≡ true
       → ((seen : List ℕ) → stops kind seen (get_or bytes j 0) ≡ false) → Runs e bytes kind i j
@@ -150,21 +139,10 @@ module _ (e : Encoding) (bytes : List ℕ) where
   breaks_end kind i h = λ place seen. ends_bad (in_segment kind place seen Whole) i h refl
 
   -- so far into a character
-  pub partial_none : (kind : Kind) (i : ℕ) → i ≤ length bytes → Partial e bytes kind i i Whole
-  partial_none kind i h = let runs =
-      runs_none kind i h in record {
-        forth = runs.forth;
-        within = h;
-        lacks = runs.is_text;
-        high =
-            ap (list_all is_high) (between_none bytes i);
-        goes = runs.goes;
-      }
-
-  pub partial_more : (kind : Kind) (i j : ℕ) (tail next : Tail) → j < length bytes → Partial e bytes kind i j tail
+  pub partial_more : AsciiEnds → (kind : Kind) (i j : ℕ) (tail next : Tail) → j < length bytes → Partial e bytes kind i j tail
       → (is_whole tail ≡ true → is_high (get_or bytes j 0) ≡ true) → next_tail e tail (get_or bytes j 0) ≡ Some next
       → Partial e bytes kind i (j + 1) next
-  partial_more kind i j tail next h partial f g =
+  partial_more quiet kind i j tail next h partial f g =
       let forth : i ≤ j = partial.forth in
       let c : ℕ = get_or bytes j 0 in
       let more : slice_range bytes i (j + 1) ≡ slice_range bytes i j ++ c ∷ [] = between_more bytes i j 0 forth h in
@@ -181,7 +159,7 @@ module _ (e : Encoding) (bytes : List ℕ) where
             ∙ goes_step (in_segment kind place now tail) (in_segment kind place (c ∷ now) next) j h
             (ap (λ b. cond b (if_whole tail (after e kind place now c))
             (if_some_tail (next_tail e tail c) (λ t. Some (in_segment kind place (c ∷ now) t))))
-            (high_quiet kind now c high)
+            (quiet kind now c high)
             ∙ ap (λ o. if_some_tail o (λ t. Some (in_segment kind place (c ∷ now) t))) g)
             ∙ ap (λ x. verdict e (in_segment kind place x next) (drop (j + 1) bytes) (j + 1))
             (sym (onto_append (slice_range bytes i j) (c ∷ []) seen) ∙ ap (λ x. onto x seen) (sym more));
@@ -199,10 +177,10 @@ module _ (e : Encoding) (bytes : List ℕ) where
             ∙ ap (λ t. verdict e (in_segment kind place (onto (slice_range bytes i j) seen) t) (drop j bytes) j) whole;
       }
 
-  pub partial_stops : (kind : Kind) (i j : ℕ) (tail : Tail) → j < length bytes → Partial e bytes kind i j tail
+  pub partial_stops : AsciiEnds → (kind : Kind) (i j : ℕ) (tail : Tail) → j < length bytes → Partial e bytes kind i j tail
       → (is_whole tail ≡ true → is_high (get_or bytes j 0) ≡ true) → next_tail e tail (get_or bytes j 0) ≡ None
       → Breaks e bytes kind i (BadText j)
-  partial_stops kind i j tail h partial f g = λ place seen.
+  partial_stops quiet kind i j tail h partial f g = λ place seen.
       let now : List ℕ = onto (slice_range bytes i j) seen in
       let c : ℕ = get_or bytes j 0 in
       let none : step e (in_segment kind place now tail) c ≡ None =
@@ -210,7 +188,7 @@ module _ (e : Encoding) (bytes : List ℕ) where
         | inl a ↦ ap
             (λ b. cond b (if_whole tail (after e kind place now c))
             (if_some_tail (next_tail e tail c) (λ t. Some (in_segment kind place (c ∷ now) t))))
-            (high_quiet kind now c (f a)) ∙ ap (λ o. if_some_tail o (λ t. Some (in_segment kind place (c ∷ now) t))) g
+            (quiet kind now c (f a)) ∙ ap (λ o. if_some_tail o (λ t. Some (in_segment kind place (c ∷ now) t))) g
         | inr a ↦ elim (cases_Bool (stops kind now c)) [
           | inl b ↦ ap
               (λ x. cond x (if_whole tail (after e kind place now c))
@@ -228,9 +206,3 @@ module _ (e : Encoding) (bytes : List ℕ) where
       → Breaks e bytes kind i (BadText j)
   partial_ends kind i j tail h partial = λ place seen. partial.goes place seen
       ∙ ends_bad (in_segment kind place (onto (slice_range bytes i j) seen) tail) j h refl
-
-pub spaces_more : (bytes : List ℕ) (at i : ℕ) → at ≤ i → i < length bytes
-    → list_all is_white (slice_range bytes at i) ≡ true → is_white (get_or bytes i 0) ≡ true
-    → list_all is_white (slice_range bytes at (i + 1)) ≡ true
-spaces_more bytes at i f h g k = ap (list_all is_white) (between_more bytes at i 0 f h)
-    ∙ every_one is_white (slice_range bytes at i) (get_or bytes i 0) g k

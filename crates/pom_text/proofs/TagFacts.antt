@@ -1,8 +1,8 @@
 -- How a start tag and an end tag are read.
-use Rattle.std.proofs.Common.{◌≡◌, ℕ, inl, inr, ◌⊎◌, zero, suc, ◌+◌, ◌-◌, ◌<◌, ◌≤◌, Bool, true, false, cond, not, ◌&&◌, ◌||◌, List, [], ◌∷◌, ◌++◌, length, take, drop, get_or, refl, sym, ◌∙◌, ap, arith, Option, Some, None}
+use Rattle.std.proofs.Common.{◌≡◌, ℕ, inl, inr, ◌⊎◌, zero, suc, ◌+◌, ◌-◌, ◌<◌, ◌≤◌, Bool, true, false, cond, not, ◌&&◌, ◌||◌, List, [], ◌∷◌, ◌++◌, length, drop, get_or, refl, sym, ◌∙◌, ap, arith, Option, Some, None}
 use Rattle.std.specs.Prelude.{◌==◌, slice_range, Err}
 use Rattle.std.proofs.lemmas.Bool.{and_right, and_parts, false≢true, eqb-true, eq-eqb, ne_eqb, cases_Bool, cases_lt, not-true}
-use Rattle.std.proofs.lemmas.List.{drop_more, drop_all, take_more}
+use Rattle.std.proofs.lemmas.List.{drop_more, drop_all}
 use Rattle.std.proofs.lemmas.List.Edits.{between_none, between_more}
 use Rattle.std.specs.List.{list_all}
 use Rattle.ascii_bytes.specs.Classes.{is_white, between}
@@ -14,14 +14,14 @@ use Rattle.pom_grammar.specs.declared.tree.TextErr.TheVariants.{BadText, TooDeep
 use Rattle.pom_grammar.specs.Characters.{is_name_start, is_name_byte, forward, onto, local}
 use Rattle.pom_grammar.specs.Encodings.{next_tail, utf8_of}
 use Rattle.pom_grammar.specs.Document.{Quote, single, double, quote_byte}
-use Rattle.pom_grammar.specs.Machine.{OpenElement, OpenElements, outside, within, depth, in_name, in_label, in_quotes, spaced, equals, value, closed, after_slash, State, opened, in_segment, in_tag, in_end, after_name, back, fresh, with_child, tree_of, may_open, has_none, step, outcome, tag_step, if_some_tail, if_whole, after}
+use Rattle.pom_grammar.specs.Machine.{OpenElement, OpenElements, outside, within, depth, in_name, in_label, in_quotes, spaced, equals, value, closed, after_slash, State, opened, in_segment, in_tag, in_end, after_name, back, fresh, with_child, tree_of, may_open, step, outcome, tag_step, if_some_tail, if_whole, after}
 use Rattle.pom_grammar.specs.Verdicts.{verdict, ended, stepped, deep_fault}
-use Rattle.pom_grammar.proofs.CallerLemmas.{forward-onto, space_no_name}
 use Rattle.pom_grammar.specs.Heads.{is_alive}
 use Rattle.pom_text.specs.declared.tree.Frame.{Frame}
 use Rattle.pom_text.specs.declared.tags.TagEnd.{TagEnd}
-use Rattle.pom_text.specs.Scans.{Goes, Faults, Runs, Breaks}
+use Rattle.pom_text.specs.Scans.{Goes, Faults, Runs}
 use Rattle.pom_text.specs.Views.{frame_view, nest, tag_state, AsTag}
+use Rattle.pom_text.proofs.Bytes.{forward-onto}
 use Rattle.pom_text.proofs.Runs.{goes_step, stops_with, ends_bad, slice_join}
 
 every_prefix : (p : ℕ → Bool) (xs ys : List ℕ) → list_all p (xs ++ ys) ≡ true
@@ -31,6 +31,10 @@ every_prefix p (x ∷ xs) ys f =
     let both = and_parts (p x) (list_all p (xs ++ ys)) f in
     let on = every_prefix p xs ys both.1 in
     (rw (both.0, on.0) refl, on.1)
+
+-- no white space is such a byte
+abbrev NoSpace : (ℕ → Bool) → Type 0
+NoSpace p = (c : ℕ) → is_white c ≡ true → p c ≡ false
 
 module _ (e : Encoding) (bytes : List ℕ) where
   -- a state that stays over white space
@@ -70,9 +74,9 @@ module _ (e : Encoding) (bytes : List ℕ) where
       let first = and_parts (is_white (get_or bytes i 0)) true both.0 in
       goes_step e bytes s t i (omega arith) (f (get_or bytes i 0) first.0) ∙ stays t g (i + 1) j (omega arith) k both.1
 
-  label_space : (name seen : List ℕ) (place : OpenElements) (c : ℕ) → is_white c ≡ true
+  label_space : NoSpace is_name_byte → (name seen : List ℕ) (place : OpenElements) (c : ℕ) → is_white c ≡ true
       → step e (in_segment (in_label name) place seen Whole) c ≡ Some (in_tag equals name place)
-  label_space name seen place c f = rw ((space_no_name c f).1, f) refl
+  label_space apart name seen place c f = rw (apart c f, f) refl
 
   equals_space : (name : List ℕ) (place : OpenElements) (c : ℕ) → is_white c ≡ true
       → step e (in_tag equals name place) c ≡ Some (in_tag equals name place)
@@ -82,24 +86,24 @@ module _ (e : Encoding) (bytes : List ℕ) where
       → step e (in_tag value name place) c ≡ Some (in_tag value name place)
   value_space name place c f = rw f refl
 
-  spaced_space : (name : List ℕ) (place : OpenElements) (c : ℕ) → is_white c ≡ true
+  spaced_space : NoSpace is_name_start → (name : List ℕ) (place : OpenElements) (c : ℕ) → is_white c ≡ true
       → step e (in_tag spaced name place) c ≡ Some (in_tag spaced name place)
-  spaced_space name place c f = rw ((space_no_name c f).0, f) refl
+  spaced_space apart name place c f = rw (apart c f, f) refl
 
   closed_space : (name : List ℕ) (place : OpenElements) (c : ℕ) → is_white c ≡ true
       → step e (in_tag closed name place) c ≡ Some (in_tag spaced name place)
   closed_space name place c f = rw f refl
 
   -- after an attribute's name
-  pub equals_goes : (name seen : List ℕ) (place : OpenElements) (i j k : ℕ) → i ≤ j → j < length bytes
+  pub equals_goes : NoSpace is_name_byte → (name seen : List ℕ) (place : OpenElements) (i j k : ℕ) → i ≤ j → j < length bytes
       → list_all is_white (slice_range bytes i j) ≡ true → get_or bytes j 0 ≡ 61 → j + 1 ≤ k → k ≤ length bytes
       → list_all is_white (slice_range bytes (j + 1) k) ≡ true
       → Goes e bytes (in_segment (in_label name) place seen Whole) i (in_tag value name place) k
-  equals_goes name seen place i j k h inside f is l past g =
+  equals_goes apart name seen place i j k h inside f is l past g =
       elim (cases_lt i j) [
         | inl some ↦
             leaves (in_segment (in_label name) place seen Whole) (in_tag equals name place)
-            (label_space name seen place) (equals_space name place) i j some (omega (arith, inside)) f
+            (label_space apart name seen place) (equals_space name place) i j some (omega (arith, inside)) f
             ∙ goes_step e bytes (in_tag equals name place) (in_tag value name place) j inside
             (ap (step e (in_tag equals name place)) is)
             ∙ stays (in_tag value name place) (value_space name place) (j + 1) k l past g
@@ -119,15 +123,15 @@ module _ (e : Encoding) (bytes : List ℕ) where
       → (c ≡ 61 → ⊥) → step e (in_segment (in_label name) place seen Whole) c ≡ None
   label_none name seen place c h f g = rw (h, f, ne_eqb c 61 g) refl
 
-  pub equals_breaks : (name seen : List ℕ) (place : OpenElements) (i j : ℕ) → i ≤ j → j ≤ length bytes
+  pub equals_breaks : NoSpace is_name_byte → (name seen : List ℕ) (place : OpenElements) (i j : ℕ) → i ≤ j → j ≤ length bytes
       → list_all is_white (slice_range bytes i j) ≡ true → is_name_byte (get_or bytes i 0) ≡ false
       → (j < length bytes → is_white (get_or bytes j 0) ≡ false) → (j < length bytes → get_or bytes j 0 ≡ 61 → ⊥)
       → Faults e bytes (in_segment (in_label name) place seen Whole) i (BadText j)
-  equals_breaks name seen place i j h inside f stop no_space not_equals =
+  equals_breaks apart name seen place i j h inside f stop no_space not_equals =
       elim (cases_lt i j) [
         | inl some ↦
             leaves (in_segment (in_label name) place seen Whole) (in_tag equals name place)
-            (label_space name seen place) (equals_space name place) i j some inside f
+            (label_space apart name seen place) (equals_space name place) i j some inside f
             ∙ elim (cases_lt j (length bytes)) [
               | inl here ↦ stops_with e bytes (in_tag equals name place) (BadText j) j here
                   (equals_none name place (get_or bytes j 0) (no_space here) (not_equals here)) refl
@@ -171,23 +175,6 @@ module _ (e : Encoding) (bytes : List ℕ) where
       (ap (step e (in_segment (in_quotes q name) place (onto (slice_range bytes (i + 1) j) []) Whole)) g
       ∙ close_quote name (onto (slice_range bytes (i + 1) j) []) place q)
 
-  pub value_breaks : (name : List ℕ) (place : OpenElements) (q : Quote) (i : ℕ) (fault : TextErr) → i < length bytes
-      → get_or bytes i 0 ≡ quote_byte q → Breaks e bytes (in_quotes q name) (i + 1) fault
-      → Faults e bytes (in_tag value name place) i fault
-  value_breaks name place q i fault h f breaks =
-      goes_step e bytes (in_tag value name place) (in_segment (in_quotes q name) place [] Whole) i h
-      (ap (step e (in_tag value name place)) f ∙ open_quote name place q) ∙ breaks place []
-
-  pub no_value : (name : List ℕ) (place : OpenElements) (i : ℕ)
-      → (i < length bytes → is_white (get_or bytes i 0) ≡ false) → (i < length bytes → get_or bytes i 0 ≡ 34 → ⊥)
-      → (i < length bytes → get_or bytes i 0 ≡ 39 → ⊥) → Faults e bytes (in_tag value name place) i (BadText i)
-  no_value name place i f g k =
-      elim (cases_lt i (length bytes)) [
-        | inl here ↦ stops_with e bytes (in_tag value name place) (BadText i) i here
-            (rw (f here, ne_eqb (get_or bytes i 0) 34 (g here), ne_eqb (get_or bytes i 0) 39 (k here)) refl) refl
-        | inr past ↦ ends_bad e bytes (in_tag value name place) i past refl
-      ]
-
   -- an attribute's name begins after white space
   pub label_begins : (name : List ℕ) (place : OpenElements) (i : ℕ) → i < length bytes
       → is_name_start (get_or bytes i 0) ≡ true
@@ -229,25 +216,10 @@ module _ (e : Encoding) (bytes : List ℕ) where
       ]
 
   -- the end of a start tag
-  pub tag_goes : (s : State) (name : List ℕ) (place : OpenElements) (i : ℕ) → AsTag e bytes i s name place
-      → i < length bytes → get_or bytes i 0 ≡ 62 → Goes e bytes s i (back (within (fresh e name) place)) (i + 1)
-  tag_goes s name place i like h f =
-      goes_step e bytes s (back (within (fresh e name) place)) i h (like.steps h ∙ ap (tag_step e name place) f)
-
   to_slash : (s : State) (name : List ℕ) (place : OpenElements) (i : ℕ) → AsTag e bytes i s name place
       → i < length bytes → get_or bytes i 0 ≡ 47 → Goes e bytes s i (in_tag after_slash name place) (i + 1)
   to_slash s name place i like h f =
       goes_step e bytes s (in_tag after_slash name place) i h (like.steps h ∙ ap (tag_step e name place) f)
-
-  pub empty_goes : (s : State) (name : List ℕ) (place : OpenElements) (i : ℕ) → AsTag e bytes i s name place
-      → i + 1 < length bytes → get_or bytes i 0 ≡ 47 → get_or bytes (i + 1) 0 ≡ 62
-      → Goes e bytes s i (back (with_child place (tree_of (fresh e name)))) (i + 2)
-  empty_goes s name place i like h f g =
-      let there : i + 1 + 1 ≡ i + 2 = omega arith in
-      to_slash s name place i like (omega arith) f
-      ∙ goes_step e bytes (in_tag after_slash name place) (back (with_child place (tree_of (fresh e name)))) (i + 1) h
-      (ap (step e (in_tag after_slash name place)) g)
-      ∙ ap (λ k. verdict e (back (with_child place (tree_of (fresh e name)))) (drop k bytes) k) there
 
   pub slash_breaks : (s : State) (name : List ℕ) (place : OpenElements) (i : ℕ) → AsTag e bytes i s name place
       → i < length bytes → get_or bytes i 0 ≡ 47 → (i + 1 < length bytes → get_or bytes (i + 1) 0 ≡ 62 → ⊥)
@@ -273,12 +245,12 @@ module _ (e : Encoding) (bytes : List ℕ) where
       ]
 
   -- white space after a value, before an attribute or the end
-  pub to_spaced : (name : List ℕ) (place : OpenElements) (i j : ℕ) → i < j → j ≤ length bytes
+  pub to_spaced : NoSpace is_name_start → (name : List ℕ) (place : OpenElements) (i j : ℕ) → i < j → j ≤ length bytes
       → list_all is_white (slice_range bytes i j) ≡ true
       → Goes e bytes (in_tag closed name place) i (in_tag spaced name place) j
-  to_spaced name place i j h k f =
+  to_spaced apart name place i j h k f =
       leaves (in_tag closed name place) (in_tag spaced name place) (closed_space name place)
-      (spaced_space name place) i j h k f
+      (spaced_space apart name place) i j h k f
 
 -- the stack of open elements
 pub nest_one : (place : OpenElements) (frames : List Frame) (frame : Frame)
@@ -326,11 +298,6 @@ module _ (e : Encoding) (bytes : List ℕ) where
       → may_open place ≡ false → step e (opened place) (get_or bytes i 0) ≡ None
   not_open place i h f g = rw (f, g) refl
 
-  pub not_open_outside : (root : Option Tree) (i : ℕ) → i < length bytes → is_name_start (get_or bytes i 0) ≡ true
-      → has_none root ≡ false → Faults e bytes (opened (outside root)) i (BadText i)
-  not_open_outside root i h f g =
-      stops_with e bytes (opened (outside root)) (BadText i) i h (not_open (outside root) i h f g) refl
-
   is_deepest : (frame : OpenElement) (outer : OpenElements) → may_open (within frame outer) ≡ false
       → (depth outer == 63) ≡ true
   is_deepest frame outer f =
@@ -343,14 +310,6 @@ module _ (e : Encoding) (bytes : List ℕ) where
   too_deep frame outer i h f g k =
       stops_with e bytes (opened (within frame outer)) (TooDeep (i - 1)) i h (not_open (within frame outer) i h f g)
       (rw (f, k, is_deepest frame outer g) refl)
-
-  pub deep_bad : (frame : OpenElement) (outer : OpenElements) (i : ℕ) → i < length bytes
-      → is_name_start (get_or bytes i 0) ≡ true → may_open (within frame outer) ≡ false
-      → is_alive (next_tail e Whole (get_or bytes i 0)) ≡ false
-      → Faults e bytes (opened (within frame outer)) i (BadText i)
-  deep_bad frame outer i h f g k =
-      stops_with e bytes (opened (within frame outer)) (BadText i) i h (not_open (within frame outer) i h f g)
-      (rw (f, k) refl)
 
   -- a name begins where an element may open
   bad_start : (place : OpenElements) (c : ℕ) (k : ℕ) → may_open place ≡ true → deep_fault e place c k ≡ BadText k
@@ -404,37 +363,6 @@ module _ (e : Encoding) (bytes : List ℕ) where
   slash_goes frame outer i h f =
       goes_step e bytes (opened (within frame outer)) (in_end [] frame.name frame outer) i h
       (ap (step e (opened (within frame outer))) f)
-
-  pub slash_outside : (root : Option Tree) (i : ℕ) → i < length bytes → get_or bytes i 0 ≡ 47
-      → Faults e bytes (opened (outside root)) i (BadText i)
-  slash_outside root i h f =
-      stops_with e bytes (opened (outside root)) (BadText i) i h (ap (step e (opened (outside root))) f) refl
-
-  pub letter_goes : (raw : List ℕ) (frame : OpenElement) (outer : OpenElements) (k i : ℕ) → k < length raw
-      → i < length bytes → get_or bytes i 0 ≡ get_or raw k 0
-      → Goes e bytes (in_end (take k raw) (drop k raw) frame outer) i
-      (in_end (take (k + 1) raw) (drop (k + 1) raw) frame outer) (i + 1)
-  letter_goes raw frame outer k i h f g =
-      ap (λ x. verdict e (in_end (take k raw) x frame outer) (drop i bytes) i) (drop_more raw k 0 h)
-      ∙ goes_step e bytes (in_end (take k raw) (get_or raw k 0 ∷ drop (k + 1) raw) frame outer)
-      (in_end (take k raw ++ get_or raw k 0 ∷ []) (drop (k + 1) raw) frame outer) i f
-      (ap (λ b. cond b (Some (in_end (take k raw ++ get_or raw k 0 ∷ []) (drop (k + 1) raw) frame outer)) None)
-      (eq-eqb (get_or bytes i 0) (get_or raw k 0) g))
-      ∙ ap (λ x. verdict e (in_end x (drop (k + 1) raw) frame outer) (drop (i + 1) bytes) (i + 1))
-      (sym (take_more raw k 0 h))
-
-  pub letter_breaks : (raw : List ℕ) (frame : OpenElement) (outer : OpenElements) (k i : ℕ) → k < length raw
-      → (i < length bytes → get_or bytes i 0 ≡ get_or raw k 0 → ⊥)
-      → Faults e bytes (in_end (take k raw) (drop k raw) frame outer) i (BadText i)
-  letter_breaks raw frame outer k i h f =
-      ap (λ x. verdict e (in_end (take k raw) x frame outer) (drop i bytes) i) (drop_more raw k 0 h)
-      ∙ elim (cases_lt i (length bytes)) [
-        | inl here ↦ stops_with e bytes (in_end (take k raw) (get_or raw k 0 ∷ drop (k + 1) raw) frame outer)
-            (BadText i) i here
-            (ap (λ b. cond b (Some (in_end (take k raw ++ get_or raw k 0 ∷ []) (drop (k + 1) raw) frame outer)) None)
-            (ne_eqb (get_or bytes i 0) (get_or raw k 0) (f here))) refl
-        | inr past ↦ ends_bad e bytes (in_end (take k raw) (get_or raw k 0 ∷ drop (k + 1) raw) frame outer) i past refl
-      ]
 
   end_space : (done : List ℕ) (frame : OpenElement) (outer : OpenElements) (c : ℕ) → is_white c ≡ true
       → step e (in_end done [] frame outer) c ≡ Some (after_name frame outer)

@@ -2,7 +2,7 @@
 use Rattle.std.proofs.Common.{◌≡◌, ℕ, inl, inr, zero, suc, ◌+◌, ◌-◌, ◌*◌, ◌/◌, ◌<◌, ◌≤◌, Bool, true, false, cond, ◌&&◌, List, [], ◌∷◌, ◌++◌, length, take, drop, get_or, refl, sym, ◌∙◌, ap, subst, arith, Option, Some, None}
 use Rattle.std.specs.Prelude.{◌==◌, nat_lt, encode_utf8, slice_range, min}
 use Rattle.std.specs.List.{flat_map, list_all}
-use Rattle.std.proofs.lemmas.Bool.{and_left, and_right, and_parts, leb-true, ltb-true, lt-ltb, le-ltb, eqb-true, ne_eqb, cases_Bool, cases_lt, not-true}
+use Rattle.std.proofs.lemmas.Bool.{and_left, and_right, and_parts, leb-true, leb-false, false≢true, ltb-true, lt-ltb, le-ltb, eqb-true, ne_eqb, cases_Bool, cases_lt, not-true}
 use Rattle.std.proofs.lemmas.List.{length-append, append_assoc, append-nil, drop_more, drop_all, take-append-drop, drop-drop, take_more, length-drop}
 use Rattle.std.proofs.lemmas.Slice.{between_from_start}
 use Rattle.std.proofs.lemmas.Str.{encode_ascii}
@@ -11,16 +11,16 @@ use Rattle.pom_grammar.specs.declared.encoding.Encoding.{Encoding}
 use Rattle.pom_grammar.specs.declared.encoding.Encoding.TheVariants.{Utf8, Ascii, Latin1}
 use Rattle.pom_grammar.specs.declared.encoding.Tail.{Tail}
 use Rattle.pom_grammar.specs.declared.encoding.Tail.TheVariants.{Whole}
-use Rattle.pom_grammar.specs.Characters.{begins_with, local_from, skip_space, cut_space}
+use Rattle.pom_grammar.specs.Characters.{is_high, begins_with, local_from, skip_space, cut_space}
 use Rattle.pom_grammar.specs.Encodings.{IsText, tails, next_tail, goes_on, utf8_of}
 use Rattle.pom_grammar.specs.References.{or_else, if_begins, entity_rows, named_in, named, is_character, digit_of, base_of, number_end, on_digit, number_from, hexadecimal, numbered, Meaning, none, means, reference, meaning_at, meant, length_of, expanded_from, expanded}
 use Rattle.pom_grammar.specs.Machine.{join}
-use Rattle.pom_grammar.proofs.CallerLemmas.{tails_more, join_skips, goes_on_some, space_cases, ascii_next}
 use Rattle.pom_text.specs.Scans.{is_whole}
 use Rattle.pom_text.specs.Texts.{is_no_ampersand, has_no_ampersand}
 use Rattle.std.specs.List.{list_all}
 use Rattle.ascii_bytes.specs.Parts.{before_trimmed}
 use Rattle.ascii_bytes.specs.Classes.{is_white}
+use Rattle.pom_text.proofs.Bytes.{apart, join_skips, ascii_next, goes_on_some, tails_more}
 use Rattle.pom_text.proofs.TableFacts.{is_entity, last_sign, begins_at}
 use Rattle.pom_text.proofs.Runs.{high_after, whole_is}
 
@@ -63,8 +63,14 @@ utf8_low Latin1 c h = append-nil (encode_utf8 c) ∙ encode_ascii c h
 
 space_low : (c : ℕ) → is_white c ≡ true → c < 128
 space_low c f =
-    space_cases c (λ x. x < 128) f (ltb-true 32 128 refl) (ltb-true 9 128 refl) (ltb-true 13 128 refl)
-    (ltb-true 10 128 refl)
+    elim (cases_Bool (is_high c)) [
+      | inl high ↦
+          let no : is_white c ≡ false =
+          rw (apart is_high c 32 high refl, apart is_high c 9 high refl, apart is_high c 10 high refl, apart is_high c 13 high refl)
+          refl in
+          absurd (false≢true (sym no ∙ f))
+      | inr low ↦ leb-false 128 c low
+    ]
 
 pub space_text : (e : Encoding) (prefix rest : List ℕ) → list_all is_white prefix ≡ true → IsText e (prefix ++ rest)
     → IsText e rest

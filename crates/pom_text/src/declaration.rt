@@ -16,7 +16,7 @@ use crate::tables::known;
 use crate::tree::bad_text;
 use ascii_bytes::is_white;
 use case_table::Table;
-use pom_grammar::{Encoding, Seek, Tail, TextErr};
+use pom_grammar::{Encoding, Seek, Tail, TextErr, declarations_begin};
 
 /// What is known of the encoding after a prefix of the declaration. Places are from the start of
 /// the input.
@@ -390,6 +390,7 @@ fn after_mark(encodings: &Table<Encoding>, bytes: &[u8], at: usize) -> Result<He
         (λ fault. unless_unknown (unknown_after at (drop at bytes.now))
         (reading_verdict (starting at_start) (drop at bytes.now) at) ≡ Err fault) }
 {
+    declarations_begin();
     if is_declared(bytes, at) {
         declared(encodings, bytes, at + 6)
     } else {

@@ -16,7 +16,7 @@ use crate::characters::{is_name_byte, is_name_start};
 use crate::encoding::next_tail;
 use crate::tree::bad_text;
 use ascii_bytes::{White, class_end, is_white};
-use pom_grammar::{Encoding, Tail, TextErr};
+use pom_grammar::{Encoding, Tail, TextErr, ascii_ends_runs};
 
 fn is_whole(tail: Tail) -> bool
     ensures { result ≡ is_whole tail }
@@ -33,6 +33,7 @@ fn char_end(bytes: &[u8], at: usize, encoding: Encoding) -> Result<usize, TextEr
     ensures ok { IfOk result (λ end. (kind : Kind) → Runs encoding bytes.now kind at end) }
     ensures err { IfErr result (λ fault. (kind : Kind) → Breaks encoding bytes.now kind at fault) }
 {
+    ascii_ends_runs();
     let mut tail = Tail::Whole;
     for i in at..bytes.len() {
         match next_tail(encoding, tail, bytes[i]) {

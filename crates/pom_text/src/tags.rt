@@ -14,7 +14,7 @@ use crate::references::trimmed;
 use crate::scans::{is_at, name_end, space_end, value_end};
 use crate::texts::local_name;
 use crate::tree::{Frame, Open, bad_text};
-use pom_grammar::{Encoding, MOST_LEVELS, Tail, TextErr, Tree};
+use pom_grammar::{Encoding, MOST_LEVELS, Tail, TextErr, Tree, names_have_no_space};
 use res_base::{List, NoMemory, Text};
 use std::alloc::Global;
 
@@ -39,6 +39,7 @@ fn equals_end(bytes: &[u8], at: usize) -> Result<usize, TextErr>
         (λ fault. (e : Encoding) (name seen : List ℕ) (place : OpenElements)
         → Faults e bytes.now (in_segment (in_label name) place seen Tail.Whole) at fault) }
 {
+    names_have_no_space();
     let sign = space_end(bytes, at);
     if is_at(bytes, sign, b'=') {
         Ok(space_end(bytes, sign + 1))
@@ -156,6 +157,7 @@ pub(crate) fn tag_end(bytes: &[u8], at: usize, encoding: Encoding) -> Result<Tag
         (λ fault. (name : List ℕ) (place : OpenElements)
         → Faults encoding bytes.now (in_tag closed name place) at fault) }
 {
+    names_have_no_space();
     let mut i = at;
     let mut next = space_end(bytes, i);
     while begins_attribute(bytes, i, next) {

@@ -5,7 +5,7 @@ ghost use Rattle.std.specs.List.{flat_map};
 ghost use Rattle.pom_grammar.specs.Characters.{local};
 ghost use Rattle.pom_grammar.specs.Encodings.{IsText, utf8_of};
 
-use pom_grammar::Encoding;
+use pom_grammar::{Encoding, texts_are_utf8};
 use res_base::{NoMemory, Text};
 use std::alloc::Global;
 
@@ -30,6 +30,7 @@ pub(crate) fn push_plain(text: &mut Text, bytes: &[u8], encoding: Encoding) -> R
     requires { IsText encoding bytes.now }
     ensures { OnOk result (text.new ≡ text.old ++ utf8_of encoding bytes.now) }
 {
+    texts_are_utf8();
     match encoding {
         Encoding::Latin1 => push_latin1(text, bytes),
         Encoding::Utf8 => text.push_str(unsafe { std::str::from_utf8_unchecked(bytes) }),

@@ -2,8 +2,8 @@ use Rattle.std.proofs.Common.{ap, ◌∙◌, arith, get_or, slice_range}
 use Rattle.std.specs.Prelude.{not}
 use Rattle.std.proofs.lemmas.Bool.{ne_eqb}
 use Rattle.std.proofs.lemmas.List.Edits.{between_more}
-use Rattle.pom_grammar.proofs.CallerLemmas.{every_one}
 use Rattle.pom_text.specs.Texts.{is_no_ampersand, has_no_ampersand}
+use Rattle.pom_text.proofs.Bytes.{every_one}
 use Rattle.pom_text.proofs.references.ampersand.Goals as goal
 
 pub loop-i-preserved : goal.loop-i-preserved
