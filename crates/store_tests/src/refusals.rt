@@ -2,7 +2,8 @@
 ghost use Rattle.std.specs.Prelude.{◌≡◌, true, IfOk, OnOk};
 ghost use Rattle.cache_store.specs.Stands.{Stands, is_live};
 
-use crate::runs::{NAME, opened, put_file, seen, upgraded, with_first_format};
+use crate::cases::FILE_FIRST;
+use crate::runs::{NAME, disk_of, opened, put_file, seen, upgraded};
 use cache_layout::Found;
 use cache_store::{PartNo, Store, StoreErr};
 use disk_base::{Disk, MemDisk};
@@ -17,7 +18,7 @@ const ABC: [u8; 20] = [
 ];
 
 /// The bytes of the file, where it is whole.
-fn read<D: Disk>(alloc: Global, store: &mut Store<D>) -> Result<List<u8>, StoreErr>
+pub(crate) fn read<D: Disk>(alloc: Global, store: &mut Store<D>) -> Result<List<u8>, StoreErr>
     requires live { is_live store.old ≡ true }
     requires stands { Stands D.told store.old }
     ensures live { IfOk result (λ bytes. is_live store.new ≡ true) }
@@ -87,6 +88,19 @@ fn number_after(alloc: Global, count: usize) -> Result<u32, StoreErr> {
     }
 }
 
+/// What an upgrade comes to where so many parts are open.
+fn upgraded_after(alloc: Global, disk: MemDisk, count: usize) -> Result<u64, StoreErr> {
+    let mut store = opened(alloc, disk)?;
+    begun(alloc, &mut store, count)?;
+    upgraded(alloc, &mut store)
+}
+
+/// What an append to a part answers that no store has opened.
+fn appended(alloc: Global, part_no: PartNo) -> Result<(), StoreErr> {
+    let mut store = opened(alloc, MemDisk::new(alloc))?;
+    store.append(alloc, part_no, b"abc")
+}
+
 /// What dropping the only open part, taking a name away, and dropping the part again answer.
 fn dropped(alloc: Global) -> Result<Result<(), StoreErr>, StoreErr> {
     let mut store = opened(alloc, MemDisk::new(alloc))?;
@@ -99,7 +113,7 @@ fn dropped(alloc: Global) -> Result<Result<(), StoreErr>, StoreErr> {
 #[test]
 fn files_are_upgraded_put_read_and_taken_away(rt: HostRuntime) -> Result<(), Fail> {
     let alloc = rt.alloc();
-    let (kinds, bytes) = changed(alloc, with_first_format(alloc)?)?;
+    let (kinds, bytes) = changed(alloc, disk_of(alloc, FILE_FIRST)?)?;
     assert!(rt; kinds == [2, 1, 1000, 2, 1500, 2, 0]);
     assert_eq!(rt; bytes.as_slice(), b"abd".as_slice());
     Ok(())
@@ -121,6 +135,12 @@ fn parts_are_counted(rt: HostRuntime) -> Result<(), Fail> {
     for (count, number) in [(0, 0), (7, 7), (4095, 4095), (4096, 5000)] {
         assert!(rt; number_after(alloc, count) == Ok(number), "after {count}");
     }
+    for (count, up) in [(4095, Ok(2)), (4096, Err(StoreErr::Full))] {
+        let disk = disk_of(alloc, FILE_FIRST)?;
+        assert!(rt; upgraded_after(alloc, disk, count) == up, "after {count}");
+    }
+    let other = PartNo { number: 7 };
+    assert!(rt; appended(alloc, other) == Err(StoreErr::PartUnknown(other)));
     let gone = PartNo { number: 0 };
     assert!(rt; dropped(alloc) == Ok(Err(StoreErr::PartUnknown(gone))));
     Ok(())

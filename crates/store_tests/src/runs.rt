@@ -1,9 +1,10 @@
 //! What is done with any store.
-ghost use Rattle.std.specs.Prelude.{◌≡◌, true, IfOk, List, OnOk};
+ghost use Rattle.std.specs.Prelude.{◌≡◌, ℕ, true, IfOk, List, None, OnOk};
 ghost use Rattle.cache_images.specs.Places.{IsDataName};
 ghost use Rattle.cache_images.specs.Sound.{IsFaithful};
 ghost use Rattle.cache_store.specs.Contents.{IsKept, IsRecorded};
-ghost use Rattle.cache_store.specs.Stands.{Stands, disk_of, is_live};
+ghost use Rattle.cache_store.specs.Parts.{part_at};
+ghost use Rattle.cache_store.specs.Stands.{Stands, disk_of, is_live, parts_of};
 ghost use Rattle.disk_base.specs.Runs.{Keeps};
 ghost use Rattle.res_base.specs.declared.world.WorldRow.{WorldRow};
 ghost use Rattle.store_tests.specs.Worlds.{AreWorlds};
@@ -18,11 +19,7 @@ use std::alloc::Global;
 pub(crate) const NAME: &str = "http/r1/x";
 
 /// The name of its record.
-const RECORD: &str = "records/http/r1/x";
-
-/// The record of `abc` at the moment 1000, in format 1.
-const FIRST_FORMAT: &str =
-    "coursier-cache 1 sha1|none a9993e364706816aba3e25717850c26c9cd0d89d 3 1000\n";
+pub(crate) const RECORD: &str = "records/http/r1/x";
 
 /// Writes a file as it stands, past the store.
 fn write_file<D: Disk>(
@@ -37,11 +34,12 @@ fn write_file<D: Disk>(
     disk.sync_names(alloc)
 }
 
-/// A disk with a file beside a record of format 1.
-pub(crate) fn with_first_format(alloc: Global) -> Result<MemDisk, DiskErr> {
+/// A disk with these files, synced.
+pub(crate) fn disk_of(alloc: Global, files: &[(&str, &str)]) -> Result<MemDisk, DiskErr> {
     let mut disk = MemDisk::new(alloc);
-    write_file(alloc, &mut disk, RECORD, FIRST_FORMAT.as_bytes())?;
-    write_file(alloc, &mut disk, NAME, b"abc")?;
+    for (name, bytes) in files {
+        write_file(alloc, &mut disk, name, bytes.as_bytes())?;
+    }
     Ok(disk)
 }
 
@@ -49,6 +47,7 @@ pub(crate) fn with_first_format(alloc: Global) -> Result<MemDisk, DiskErr> {
 pub(crate) fn opened<D: Disk>(alloc: Global, disk: D) -> Result<Store<D>, StoreErr>
     ensures live { IfOk result (λ store. is_live store ≡ true) }
     ensures stands { IfOk result (Stands D.told) }
+    ensures none { IfOk result (λ store. (k : ℕ) → part_at (parts_of store) k ≡ None) }
 {
     match Store::open(alloc, disk) {
         Ok(store) => Ok(store),
