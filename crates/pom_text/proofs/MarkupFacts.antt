@@ -56,7 +56,8 @@ inner_of e bytes start end (suc (suc n)) f h is g =
     let second : slice_range bytes start (end - 2) ≡ inner ++ a ∷ [] = ap (slice_range bytes start) (omega (arith, f))
     ∙ between_more bytes start (end - 3) 0 (omega (arith, f)) (omega (arith, f, h)) in
     let seen : onto (slice_range bytes start (end - 1)) [] ≡ b ∷ (a ∷ onto inner []) =
-    ap (λ x. onto x []) last ∙ onto_append (slice_range bytes start (end - 2)) (b ∷ []) [] ∙ ap (λ x. b ∷ onto x []) second
+    ap (λ x. onto x []) last ∙ onto_append (slice_range bytes start (end - 2)) (b ∷ []) []
+    ∙ ap (λ x. b ∷ onto x []) second
     ∙ ap (λ x. b ∷ x) (onto_append inner (a ∷ []) []) in
     let both = and_parts (b == 93) (a == 93 && true) (ap (begins_with (93 ∷ (93 ∷ []))) (sym seen) ∙ g) in
     let one = and_parts (a == 93) true both.1 in

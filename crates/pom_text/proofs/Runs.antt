@@ -139,7 +139,8 @@ module _ (e : Encoding) (bytes : List ℕ) where
   breaks_end kind i h = λ place seen. ends_bad (in_segment kind place seen Whole) i h refl
 
   -- so far into a character
-  pub partial_more : AsciiEnds → (kind : Kind) (i j : ℕ) (tail next : Tail) → j < length bytes → Partial e bytes kind i j tail
+  pub partial_more : AsciiEnds → (kind : Kind) (i j : ℕ) (tail next : Tail) → j < length bytes
+      → Partial e bytes kind i j tail
       → (is_whole tail ≡ true → is_high (get_or bytes j 0) ≡ true) → next_tail e tail (get_or bytes j 0) ≡ Some next
       → Partial e bytes kind i (j + 1) next
   partial_more quiet kind i j tail next h partial f g =
@@ -177,7 +178,8 @@ module _ (e : Encoding) (bytes : List ℕ) where
             ∙ ap (λ t. verdict e (in_segment kind place (onto (slice_range bytes i j) seen) t) (drop j bytes) j) whole;
       }
 
-  pub partial_stops : AsciiEnds → (kind : Kind) (i j : ℕ) (tail : Tail) → j < length bytes → Partial e bytes kind i j tail
+  pub partial_stops : AsciiEnds → (kind : Kind) (i j : ℕ) (tail : Tail) → j < length bytes
+      → Partial e bytes kind i j tail
       → (is_whole tail ≡ true → is_high (get_or bytes j 0) ≡ true) → next_tail e tail (get_or bytes j 0) ≡ None
       → Breaks e bytes kind i (BadText j)
   partial_stops quiet kind i j tail h partial f g = λ place seen.

@@ -95,7 +95,8 @@ module _ (e : Encoding) (bytes : List ℕ) where
   closed_space name place c f = rw f refl
 
   -- after an attribute's name
-  pub equals_goes : NoSpace is_name_byte → (name seen : List ℕ) (place : OpenElements) (i j k : ℕ) → i ≤ j → j < length bytes
+  pub equals_goes : NoSpace is_name_byte → (name seen : List ℕ) (place : OpenElements) (i j k : ℕ) → i ≤ j
+      → j < length bytes
       → list_all is_white (slice_range bytes i j) ≡ true → get_or bytes j 0 ≡ 61 → j + 1 ≤ k → k ≤ length bytes
       → list_all is_white (slice_range bytes (j + 1) k) ≡ true
       → Goes e bytes (in_segment (in_label name) place seen Whole) i (in_tag value name place) k
@@ -123,7 +124,8 @@ module _ (e : Encoding) (bytes : List ℕ) where
       → (c ≡ 61 → ⊥) → step e (in_segment (in_label name) place seen Whole) c ≡ None
   label_none name seen place c h f g = rw (h, f, ne_eqb c 61 g) refl
 
-  pub equals_breaks : NoSpace is_name_byte → (name seen : List ℕ) (place : OpenElements) (i j : ℕ) → i ≤ j → j ≤ length bytes
+  pub equals_breaks : NoSpace is_name_byte → (name seen : List ℕ) (place : OpenElements) (i j : ℕ) → i ≤ j
+      → j ≤ length bytes
       → list_all is_white (slice_range bytes i j) ≡ true → is_name_byte (get_or bytes i 0) ≡ false
       → (j < length bytes → is_white (get_or bytes j 0) ≡ false) → (j < length bytes → get_or bytes j 0 ≡ 61 → ⊥)
       → Faults e bytes (in_segment (in_label name) place seen Whole) i (BadText j)

@@ -66,8 +66,8 @@ space_low c f =
     elim (cases_Bool (is_high c)) [
       | inl high ↦
           let no : is_white c ≡ false =
-          rw (apart is_high c 32 high refl, apart is_high c 9 high refl, apart is_high c 10 high refl, apart is_high c 13 high refl)
-          refl in
+          rw (apart is_high c 32 high refl, apart is_high c 9 high refl)
+          (rw (apart is_high c 10 high refl, apart is_high c 13 high refl) refl) in
           absurd (false≢true (sym no ∙ f))
       | inr low ↦ leb-false 128 c low
     ]

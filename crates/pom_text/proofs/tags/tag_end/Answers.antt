@@ -10,7 +10,8 @@ pub returns-in-Err-clause-err : goal.returns-in-Err-clause-err
 returns-in-Err-clause-err c = λ name place.
     let begins = c.begins_attribute.ensures.yes c.loop-encoding-test.true in
     c.loop-encoding.invariant.5 name place
-    ∙ to_spaced c.args.encoding c.args.bytes.now c.names_have_no_space.ensures.begins name place c.loop-encoding.i c.loop-encoding.next begins.0
+    ∙ to_spaced c.args.encoding c.args.bytes.now c.names_have_no_space.ensures.begins
+    name place c.loop-encoding.i c.loop-encoding.next begins.0
     c.loop-encoding.invariant.2 c.loop-encoding.invariant.3
     ∙ c.in-Err.ensures.err name place
 
@@ -24,7 +25,8 @@ loop-encoding-preserved c =
       c.space_end-next-in-loop-encoding.ensures.ends,
       λ name place.
           c.loop-encoding.invariant.5 name place
-          ∙ to_spaced c.args.encoding c.args.bytes.now c.names_have_no_space.ensures.begins name place c.loop-encoding.i c.loop-encoding.next begins.0
+          ∙ to_spaced c.args.encoding c.args.bytes.now c.names_have_no_space.ensures.begins
+          name place c.loop-encoding.i c.loop-encoding.next begins.0
           c.loop-encoding.invariant.2 c.loop-encoding.invariant.3
           ∙ c.in-Ok.ensures.ok name place,
     )
@@ -42,7 +44,8 @@ returns-clause-ok c =
     c.loop-encoding.invariant.5 name place
     ∙ elim (cases_lt c.loop-encoding.i c.loop-encoding.next) [
       | inl some ↦
-          to_spaced c.args.encoding c.args.bytes.now c.names_have_no_space.ensures.begins name place c.loop-encoding.i c.loop-encoding.next some
+          to_spaced c.args.encoding c.args.bytes.now c.names_have_no_space.ensures.begins
+          name place c.loop-encoding.i c.loop-encoding.next some
           c.loop-encoding.invariant.2 c.loop-encoding.invariant.3
           ∙ on c.args.encoding name place (in_tag spaced name place)
           (as_spaced c.args.encoding c.args.bytes.now name place c.loop-encoding.next
@@ -61,7 +64,8 @@ returns-clause-err c =
     c.loop-encoding.invariant.5 name place
     ∙ elim (cases_lt c.loop-encoding.i c.loop-encoding.next) [
       | inl some ↦
-          to_spaced c.args.encoding c.args.bytes.now c.names_have_no_space.ensures.begins name place c.loop-encoding.i c.loop-encoding.next some
+          to_spaced c.args.encoding c.args.bytes.now c.names_have_no_space.ensures.begins
+          name place c.loop-encoding.i c.loop-encoding.next some
           c.loop-encoding.invariant.2 c.loop-encoding.invariant.3
           ∙ breaks c.args.encoding name place (in_tag spaced name place)
           (as_spaced c.args.encoding c.args.bytes.now name place c.loop-encoding.next
