@@ -1,0 +1,3 @@
+-- Lemmas of what a cache says.
+pub mod Faith
+pub mod Tables
