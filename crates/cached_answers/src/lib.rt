@@ -4,4 +4,4 @@
 
 mod laws;
 
-pub use laws::{cache_answers, cache_true};
+pub use laws::{cache_answers, cache_apart, cache_offline, cache_true};
