@@ -1,0 +1,4 @@
+-- Lemmas of what a cache says.
+pub mod Apart
+pub mod Faith
+pub mod Tables

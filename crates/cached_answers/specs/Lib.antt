@@ -1,0 +1,2 @@
+-- What a cache says of keys.
+pub mod Caches
